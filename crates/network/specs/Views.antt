@@ -1,0 +1,11 @@
+-- The network that a value of the code stands for. Assumes nothing.
+use lib.ListN.{take}
+use Rattle.network.specs.Net.{Net}
+use Rattle.network.specs.declared.draft.Draft.{Draft}
+use Rattle.network.specs.declared.closed.Network.{Network}
+
+abbrev pub drafted : Draft → Net
+drafted d = record { numbers = d .numbers; links = take (d .count) (d .links) }
+
+abbrev pub closed : Network → Net
+closed n = drafted (n .wiring)
