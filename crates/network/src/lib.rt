@@ -15,6 +15,9 @@ pub use draft::Draft;
 pub use numbers::Link;
 pub use numbers::Numbers;
 pub use refusal::NetworkRefusal;
+pub use refusal::NetworkRefusalDebug;
+pub use refusal::NetworkRefusalEq;
+pub use refusal::NetworkRefusalPartialEq;
 
 #[cfg(test)]
 mod tests;

@@ -1,0 +1,10 @@
+pub mod Cuts
+pub mod Places
+pub mod Steps
+pub mod Values
+pub mod Spelling
+pub mod Collecting
+pub mod Sayings
+pub mod Determined
+pub mod Wholes
+pub mod Progress

@@ -1,0 +1,16 @@
+use mathlib.Core.Path.{_≡_}
+use lib.ListN.{length}
+use Rattle.std.specs.Of.String.{string-bytes}
+use Rattle.sheet.specs.Lines.{lines}
+use Rattle.sheet.specs.Readers.{lines-left}
+use Rattle.sheet.specs.Replies.{written}
+use Rattle.sheet.specs.Runs.{state-of}
+use Rattle.sheet.specs.Wirings.{only-refused}
+use Rattle.sheet.proofs.Progress.{Sofar, Unready}
+use Rattle.sheet.proofs.wiring.wire.Given as given
+
+abbrev pub Inv-loop-line : given.InvT-loop-line
+Inv-loop-line l = (h : Sofar (lines (l .sheet)) (lines-left (l .reader)) (state-of (l .bay))) × (string-bytes (l .refused) ≡ written (only-refused (h .done))) × Unready (h .seen)
+
+abbrev pub μ-loop-line : given.MeasureT-loop-line
+μ-loop-line l = length (lines-left (l .reader))

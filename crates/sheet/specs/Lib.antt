@@ -1,0 +1,12 @@
+pub mod Pieces
+pub mod Numerals
+pub mod Lines
+pub mod Readers
+pub mod Keywords
+pub mod Refusals
+pub mod Replies
+pub mod Commands
+pub mod Readings
+pub mod Runs
+pub mod Wirings
+pub mod Laws
