@@ -1,23 +1,15 @@
 -- A link that was looked for, by its place and by its number. Assumes nothing.
-use mathlib.Core.Bool.{true, false}
 use mathlib.Core.Logic.{⊎-elim}
 use mathlib.Core.Path.{_≡_, sym, subst, _∙_}
-use Prim.Native.Nat.{ℕ, _+_, _-_, _≤_, _<_}
+use Prim.Native.Nat.{ℕ, _+_, _-_, _<_}
 use native.Mathlib.Omega.{arith}
 use lib.ListN.{length}
-use Rattle.std.proofs.shelf.Tests.{cases-order, true≢false}
-use Rattle.std.specs.Options.{isSome}
-use Rattle.std.specs.declared.option.Option.{Option}
-use Rattle.std.specs.declared.option.Option.the-variants.{Some, None}
-use Rattle.network.specs.Calls.{Tells-number}
-use Rattle.network.specs.Net.{Net, Sound, Linked, Link-is, link, nth-link}
+use Rattle.std.proofs.shelf.Tests.{cases-order}
+use Rattle.network.specs.Net.{Net, Sound, Link-is, link, nth-link}
 
 module _ (net : Net) (a b : ℕ) where
   pub found-at : (k : ℕ) → k < length (net .links) → nth-link (net .links) k ≡ link a b → Link-is net (k + 1) a b
   found-at k h e = record { numbered = record { least = omega arith; most = omega arith }; leads = subst (λ n. nth-link (net .links) n ≡ link a b) (omega arith) e }
-
-  pub found-nowhere : ((k : ℕ) → k < length (net .links) → nth-link (net .links) k ≡ link a b → ⊥) → Linked net a b → ⊥
-  found-nowhere none l = none (l .0 - 1) (omega arith) (l .1 .leads)
 
   pub found-once : Sound net → (j k : ℕ) → Link-is net j a b → Link-is net k a b → j ≡ k
   found-once s j k x y =
@@ -26,7 +18,3 @@ module _ (net : Net) (a b : ℕ) where
       (λ l. absurd (s .once (j - 1) (k - 1) (omega arith) (omega arith) (x .leads ∙ sym (y .leads))))
       (λ l. absurd (s .once (k - 1) (j - 1) (omega arith) (omega arith) (y .leads ∙ sym (x .leads)))))
       (cases-order j k)
-
-  pub unlinked : (r : Option ℕ) → Tells-number net a b r → isSome r ≡ false → Linked net a b → ⊥
-  unlinked None t e = t
-  unlinked (Some k) t e = absurd (true≢false e)

@@ -10,10 +10,14 @@ byte-time speed = 8000 / speed
 abbrev pub frame-span : Net → ℕ → ℕ
 frame-span net size = (size + 20) * byte-time (net .numbers .speed)
 
--- d is the fewest ticks that last as long as a frame holds a link
-pub record Frame-time (net : Net) (size d : ℕ) : Type 0 where
-  pub enough : frame-span net size ≤ d * net .numbers .tick
-  pub fewest : (k : ℕ) → frame-span net size ≤ k * net .numbers .tick → d ≤ k
+-- d ticks last at least as long as the span, in nanoseconds, and no fewer do
+pub record Fewest (span tick d : ℕ) : Type 0 where
+  pub enough : span ≤ d * tick
+  pub fewest : (k : ℕ) → span ≤ k * tick → d ≤ k
+
+-- the ticks that a frame holds a link: the fewest that last as long
+abbrev pub Frame-time : Net → ℕ → ℕ → Type 0
+Frame-time net size d = Fewest (frame-span net size) (net .numbers .tick) d
 
 -- the ticks from a frame's start on the first link of a path to its end on the last: each switch forwards a whole frame
 abbrev pub latency : Net → ℕ → ℕ → ℕ

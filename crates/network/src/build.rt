@@ -1,7 +1,12 @@
 //! Building a network: a draft takes numbers and links, and is closed.
 
+ghost use lib.ListN.{length};
+ghost use mathlib.Core.List.{[], _∷_, _++_};
 ghost use mathlib.Core.Path.{_≡_};
+ghost use Prim.Native.Nat.{_<_};
+ghost use Rattle.limits.specs.Ranges.{link-max};
 ghost use Rattle.network.specs.Calls.{first-net, Sets-numbers, Adds-link};
+ghost use Rattle.network.specs.Net.{Ends, In-range, Linked, link};
 ghost use Rattle.network.specs.Views.{drafted, closed};
 use crate::closed::Network;
 use crate::draft::Draft;
@@ -16,31 +21,26 @@ impl Draft {
     pub fn new() -> Draft
         ensures { λ r. ⌜ drafted r ≡ first-net ⌝ }
     {
-        let numbers = Numbers {
+        Draft::bare(Numbers {
             nodes: 2,
             speed: 100,
             tick: 1000,
             forwarding: 1,
             cycle: 1,
-        };
-        Draft {
-            numbers,
-            links: [Link { from: 0, to: 0 }; 40],
-            count: 0,
-        }
+        })
     }
 
     /// Sets the five numbers, while there is no link and if each is in its range.
     pub fn set_numbers(&mut self, numbers: Numbers) -> Result<(), NetworkRefusal>
         ensures sets { λ r. ⌜ Sets-numbers (drafted (now (self .entry))) numbers r (drafted (now (self .exit))) ⌝ }
     {
-        if self.count > 0 {
+        if self.link_count() > 0 {
             return Err(NetworkRefusal::NumbersAfterLink);
         }
         if !in_range(numbers) {
             return Err(NetworkRefusal::NumberOutOfRange);
         }
-        self.numbers = numbers;
+        *self = Draft::bare(numbers);
         Ok(())
     }
 
@@ -55,13 +55,12 @@ impl Draft {
         if self.number_between(from, to).is_some() {
             return Err(NetworkRefusal::LinkExists);
         }
-        let count = self.count;
-        if count >= LINK_MAX as usize {
+        let links = self.link_count();
+        if links >= LINK_MAX {
             return Err(NetworkRefusal::TooManyLinks);
         }
-        self.links[count] = Link { from, to };
-        self.count = count + 1;
-        Ok(count as u32 + 1)
+        self.push(from, to);
+        Ok(links + 1)
     }
 
     /// Closes the draft, which is used up; this never refuses.
@@ -69,5 +68,29 @@ impl Draft {
         ensures { λ r. ⌜ closed r ≡ drafted self ⌝ }
     {
         Network { wiring: self }
+    }
+
+    // A draft with no link.
+    fn bare(numbers: Numbers) -> Draft
+        requires { ⌜ In-range numbers ⌝ }
+        ensures { λ r. ⌜ drafted r ≡ record { numbers = numbers; links = [] } ⌝ }
+    {
+        Draft {
+            numbers,
+            links: [Link { from: 0, to: 0 }; 40],
+            count: 0,
+        }
+    }
+
+    // One link more, between two different nodes that none joins yet.
+    fn push(&mut self, from: u32, to: u32)
+        requires ends { ⌜ Ends (drafted (now self) .numbers) from to ⌝ }
+        requires fresh { ⌜ (Linked (drafted (now self)) from to → ⊥) ⌝ }
+        requires room { ⌜ length (drafted (now self) .links) < link-max ⌝ }
+        ensures { λ _. ⌜ drafted (now (self .exit)) ≡ record { numbers = drafted (now (self .entry)) .numbers; links = drafted (now (self .entry)) .links ++ (link from to ∷ []) } ⌝ }
+    {
+        let count = self.count;
+        self.links[count] = Link { from, to };
+        self.count = count + 1;
     }
 }

@@ -2,9 +2,11 @@
 
 ghost use lib.ListN.{length};
 ghost use mathlib.Core.Path.{_≡_};
+ghost use Prim.Native.Nat.{_^_, _<_, _≤_};
+ghost use Rattle.limits.specs.Ranges.{Tick};
 ghost use Rattle.network.specs.Calls.{Tells-ends, Tells-number};
 ghost use Rattle.network.specs.Net.{Sound};
-ghost use Rattle.network.specs.Times.{Frame-time};
+ghost use Rattle.network.specs.Times.{Fewest, Frame-time, byte-time};
 ghost use Rattle.network.specs.Views.{closed};
 use crate::closed::Network;
 use crate::numbers::Link;
@@ -16,14 +18,14 @@ impl Network {
         ensures value { λ r. ⌜ r ≡ closed (now (self .entry)) .numbers ⌝ }
         ensures sound { λ _. ⌜ Sound (closed (now (self .entry))) ⌝ }
     {
-        self.wiring.numbers
+        self.wiring.numbers()
     }
 
     /// How many links there are.
     pub fn links(&self) -> u32
         ensures { λ r. ⌜ r ≡ length (closed (now (self .entry)) .links) ⌝ }
     {
-        self.wiring.count as u32
+        self.wiring.link_count()
     }
 
     /// The ends of the link of a number, if there is one; links are numbered from 1.
@@ -48,9 +50,32 @@ impl Network {
     pub fn frame_time(&self, size: u32) -> u64
         ensures { λ r. ⌜ Frame-time (closed (now (self .entry))) size r ⌝ }
     {
-        let tick = u64::from(self.wiring.numbers.tick);
-        let byte_time = u64::from(8000 / self.wiring.numbers.speed);
-        let span = (u64::from(size) + 20) * byte_time;
-        (span + (tick - 1)) / tick
+        let span = (u64::from(size) + 20) * self.byte_time();
+        fewest_ticks(span, self.tick())
     }
+
+    // The time of a byte in nanoseconds.
+    fn byte_time(&self) -> u64
+        ensures value { λ r. ⌜ r ≡ byte-time (closed (now (self .entry)) .numbers .speed) ⌝ }
+        ensures bound { λ r. ⌜ r ≤ 8000 ⌝ }
+    {
+        u64::from(8000 / self.wiring.numbers.speed)
+    }
+
+    // The length of a tick in nanoseconds.
+    fn tick(&self) -> u64
+        ensures value { λ r. ⌜ r ≡ closed (now (self .entry)) .numbers .tick ⌝ }
+        ensures bound { λ r. ⌜ Tick r ⌝ }
+    {
+        u64::from(self.wiring.numbers.tick)
+    }
+}
+
+// The fewest ticks that last at least as long as a span.
+fn fewest_ticks(span: u64, tick: u64) -> u64
+    requires tick { ⌜ Tick tick ⌝ }
+    requires span { ⌜ span < 2 ^ 60 ⌝ }
+    ensures { λ r. ⌜ Fewest span tick r ⌝ }
+{
+    (span + (tick - 1)) / tick
 }

@@ -4,7 +4,7 @@ ghost use lib.ListN.{length};
 ghost use mathlib.Core.Path.{_≡_};
 ghost use Prim.Native.Nat.{ℕ, _<_};
 ghost use Rattle.network.specs.Calls.{Tells-number};
-ghost use Rattle.network.specs.Net.{In-range, link, nth-link};
+ghost use Rattle.network.specs.Net.{In-range, Sound, link, nth-link};
 ghost use Rattle.network.specs.Views.{drafted};
 ghost use Rattle.std.specs.Options.{Cases};
 ghost use Rattle.std.specs.Orderings.{Decides};
@@ -36,11 +36,26 @@ fn place_of(links: &[Link], from: u32, to: u32) -> Option<usize>
 }
 
 impl Draft {
+    // The five numbers, which are in range.
+    pub(crate) fn numbers(&self) -> Numbers
+        ensures value { λ r. ⌜ r ≡ drafted (now (self .entry)) .numbers ⌝ }
+        ensures sound { λ _. ⌜ Sound (drafted (now (self .entry))) ⌝ }
+    {
+        self.numbers
+    }
+
     // The links that were added, in order.
     pub(crate) fn wired(&self) -> &[Link]
         ensures { λ r. ⌜ now r ≡ drafted (now (self .entry)) .links ⌝ }
     {
         &self.links[0..self.count]
+    }
+
+    // How many links were added.
+    pub(crate) fn link_count(&self) -> u32
+        ensures { λ r. ⌜ r ≡ length (drafted (now (self .entry)) .links) ⌝ }
+    {
+        self.count as u32
     }
 
     // The number of the link between two nodes, if there is one.

@@ -1,6 +1,0 @@
-use mathlib.Core.Path.{refl}
-use Rattle.network.proofs.Soundness.{sound-of}
-use Rattle.network.proofs.closed.Network.numbers.Needs as need
-
-pub returns : need.returns
-returns c = record { value = refl; sound = sound-of (c .args .self .now .wiring) }
