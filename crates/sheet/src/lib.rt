@@ -28,3 +28,6 @@ pub use reply::Reply;
 pub use whole::SHEET_MAX;
 pub use whole::account;
 pub use wiring::wire;
+
+#[cfg(test)]
+mod tests;

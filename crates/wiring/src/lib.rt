@@ -9,7 +9,7 @@ ghost use Rattle.network.specs.Times.{Frame-time, latency};
 ghost use Rattle.network.specs.Views.{closed};
 ghost use Rattle.std.specs.Of.String.{string-bytes};
 ghost use Rattle.std.specs.Vec.{made};
-ghost use Rattle.wiring.specs.Texts.{number-line, number-lines, link-line, link-lines, frame-line, latency-lines, description, Describes, Wiring-account};
+ghost use Rattle.wiring.specs.Texts.{number-line, number-lines, link-line, link-lines, frame-line, latency-lines, description, Describes, Tells, Wiring-account};
 use limits::FRAME_MAX;
 use limits::FRAME_MIN;
 use limits::PATH_LINK_MAX;
@@ -39,7 +39,15 @@ pub fn describe(heap: Global, network: &Network) -> Result<String, AllocError>
 pub fn wiring_account(heap: Global, sheet: &[u8]) -> Result<String, AllocError>
     ensures { λ r. ⌜ made r (λ s. Wiring-account (now (sheet .entry)) (string-bytes s)) ⌝ }
 {
-    match wire(heap, sheet)? {
+    let outcome = wire(heap, sheet)?;
+    tell(heap, outcome)
+}
+
+// The text that comes of the outcome of a wiring.
+fn tell(heap: Global, outcome: Outcome) -> Result<String, AllocError>
+    ensures { λ r. ⌜ made r (λ s. Tells outcome (string-bytes s)) ⌝ }
+{
+    match outcome {
         Outcome::Network(network) => describe(heap, &network),
         Outcome::Refused(replies) => Ok(replies),
     }
