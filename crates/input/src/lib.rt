@@ -1,6 +1,7 @@
 //! Where a program's sheet comes from: the file that its argument names, or standard input.
 
-ghost use Prim.Native.Nat.{_≤_};
+ghost use Prim.Native.Nat.{_+_, _≤_};
+ghost use Rattle.sheet.specs.Runs.{sheet-max};
 ghost use Rattle.std.specs.Of.Vec.{vec-len};
 ghost use Rattle.std.specs.Vec.{made};
 use sheet::SHEET_MAX;
@@ -16,7 +17,7 @@ pub const READ_MAX: usize = SHEET_MAX + 1;
 
 // What a source holds, up to so many bytes.
 fn read_some<R: Read + Drop>(heap: Global, source: R) -> io::Result<Vec<u8>>
-    ensures { λ r. ⌜ made r (λ bytes. vec-len bytes ≤ 32769) ⌝ }
+    ensures { λ r. ⌜ made r (λ bytes. vec-len bytes ≤ sheet-max + 1) ⌝ }
 {
     let mut bytes = Vec::new(heap);
     let mut limited = source.take(READ_MAX as u64);
@@ -28,7 +29,7 @@ fn read_some<R: Read + Drop>(heap: Global, source: R) -> io::Result<Vec<u8>>
 /// The sheet in the file that the program's first argument names, or on standard input where there is none.
 /// What is read is no matter of a contract; it is never more than `READ_MAX` bytes.
 pub fn read_sheet(rt: &LibcRuntime) -> Result<Vec<u8>, AnyError>
-    ensures { λ r. ⌜ made r (λ bytes. vec-len bytes ≤ 32769) ⌝ }
+    ensures { λ r. ⌜ made r (λ bytes. vec-len bytes ≤ sheet-max + 1) ⌝ }
 {
     let heap = rt.alloc();
     let mut arguments = env::args(rt)?;

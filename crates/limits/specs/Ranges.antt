@@ -6,24 +6,31 @@ pub record Within (low high n : ℕ) : Type 0 where
   pub least : low ≤ n
   pub most : n ≤ high
 
+-- the longest cycle, in ticks
 abbrev pub cycle-max : ℕ
 cycle-max = 4096
 
+-- the longest tick, in nanoseconds
 abbrev pub tick-max : ℕ
 tick-max = 1000000
 
+-- the most links of a network
 abbrev pub link-max : ℕ
 link-max = 40
 
+-- the greatest flow number
 abbrev pub flow-max : ℕ
 flow-max = 48
 
+-- the smallest frame, in bytes
 abbrev pub frame-min : ℕ
 frame-min = 64
 
+-- the largest frame, in bytes
 abbrev pub frame-max : ℕ
 frame-max = 1522
 
+-- the most links of a path
 abbrev pub path-link-max : ℕ
 path-link-max = 6
 

@@ -26,6 +26,7 @@ pub record Net : Type 0 where
   pub numbers : Numbers
   pub links : List Link
 
+-- the link from a to b
 abbrev pub link : ℕ → ℕ → Link
 link a b = record { from = a; to = b }
 

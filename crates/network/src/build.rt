@@ -10,6 +10,7 @@ ghost use Rattle.network.specs.Net.{Ends, In-range, Linked, link};
 ghost use Rattle.network.specs.Views.{drafted, closed};
 use crate::closed::Network;
 use crate::draft::Draft;
+use crate::draft::ROOM;
 use crate::numbers::Link;
 use crate::numbers::Numbers;
 use crate::refusal::NetworkRefusal;
@@ -77,7 +78,7 @@ impl Draft {
     {
         Draft {
             numbers,
-            links: [Link { from: 0, to: 0 }; 40],
+            links: [Link { from: 0, to: 0 }; ROOM],
             count: 0,
         }
     }

@@ -12,7 +12,7 @@ use Rattle.sheet.specs.Commands.{line-rules, Begins, Numerals, Says}
 use Rattle.sheet.specs.Lines.{SheetLine, SheetWord, arguments}
 use Rattle.sheet.specs.Numerals.{Numeral, value-of}
 use Rattle.sheet.specs.Readings.{command-of, keyword-of}
-use Rattle.sheet.specs.Runs.{State, outcome, Carried, reply-to, Answers, faulty, carried, Run}
+use Rattle.sheet.specs.Runs.{State, outcome, Executed, reply-to, Answers, faulty, executed, Run}
 use Rattle.sheet.specs.declared.command.Command.{Command}
 use Rattle.sheet.specs.declared.command.Command.the-variants.{Net, Link, Ready, Planner}
 use Rattle.sheet.specs.declared.keyword.Keyword.{Keyword}
@@ -64,15 +64,15 @@ says-once l c d a b =
     says-made l c a ∙ ap (λ k. command-of k (map (λ w. value-of (w .text)) (arguments l))) same ∙ sym (says-made l d b)
 
 -- what a line says has one outcome, and leaves one state
-pub carried-once : (s : State) (c : Command) (o p : Result (Unit {0}) Refusal) (t u : State) → Carried s c o t → Carried s c p u → (o ≡ p) × (t ≡ u)
-carried-once s (Net n) o p t u (r, a, g, x) (q, b, h, y) =
+pub executed-once : (s : State) (c : Command) (o p : Result (Unit {0}) Refusal) (t u : State) → Executed s c o t → Executed s c p u → (o ≡ p) × (t ≡ u)
+executed-once s (Net n) o p t u (r, a, g, x) (q, b, h, y) =
     let same = sets-once (s .net) n r q (t .net) (u .net) a b in
     (x ∙ ap outcome (same .0) ∙ sym y, λ i. record { stage = (g ∙ sym h) i; net = same .1 i })
-carried-once s (Link from to) o p t u (r, a, g, x) (q, b, h, y) =
+executed-once s (Link from to) o p t u (r, a, g, x) (q, b, h, y) =
     let same = adds-once (s .net) from to r q (t .net) (u .net) a b in
     (x ∙ ap outcome (same .0) ∙ sym y, λ i. record { stage = (g ∙ sym h) i; net = same .1 i })
-carried-once s Ready o p t u (a, x) (b, y) = (x ∙ sym y, a ∙ sym b)
-carried-once s (Planner k) o p t u (a, x) (b, y) = (x ∙ sym y, a ∙ sym b)
+executed-once s Ready o p t u (a, x) (b, y) = (x ∙ sym y, a ∙ sym b)
+executed-once s (Planner k) o p t u (a, x) (b, y) = (x ∙ sym y, a ∙ sym b)
 
 -- a line has one reply, and leaves one state
 pub answers-once : (s : State) (l : SheetLine) (r q : Reply) (t u : State) → Answers s l r t → Answers s l q u → (r ≡ q) × (t ≡ u)
@@ -80,10 +80,10 @@ answers-once s l r q t u (faulty f a x g) (faulty e b y h) =
     let first = first-once (line-rules (s .stage) l) (Some f) (Some e) a b in
     let same : f ≡ e = cc in
     (cc, g ∙ sym h)
-answers-once s l r q t u (faulty f a x g) (carried c o b says h y) = absurd (let first = first-once (line-rules (s .stage) l) (Some f) None a b in clash (cc))
-answers-once s l r q t u (carried c o a says g x) (faulty e b y h) = absurd (let first = first-once (line-rules (s .stage) l) None (Some e) a b in clash (cc))
-answers-once s l r q t u (carried c o a says g x) (carried d p b also h y) =
-    let same = carried-once s d o p t u (subst (λ e. Carried s e o t) (says-once l c d says also) g) h in
+answers-once s l r q t u (faulty f a x g) (executed c o b says h y) = absurd (let first = first-once (line-rules (s .stage) l) (Some f) None a b in clash (cc))
+answers-once s l r q t u (executed c o a says g x) (faulty e b y h) = absurd (let first = first-once (line-rules (s .stage) l) None (Some e) a b in clash (cc))
+answers-once s l r q t u (executed c o a says g x) (executed d p b also h y) =
+    let same = executed-once s d o p t u (subst (λ e. Executed s e o t) (says-once l c d says also) g) h in
     (x ∙ ap (reply-to l) (same .0) ∙ sym y, same .1)
 
 -- lines have one list of replies, and leave one state

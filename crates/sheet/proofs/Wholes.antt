@@ -15,7 +15,7 @@ use Rattle.sheet.specs.Commands.{Says}
 use Rattle.sheet.specs.Laws.{Names-line, One-reply-each, One-account, Links-granted, Links-are-those-granted, Refusal-changes-nothing, Refused-line-is-nothing, Sheet-laws}
 use Rattle.sheet.specs.Lines.{SheetLine, lines}
 use Rattle.sheet.specs.Replies.{written}
-use Rattle.sheet.specs.Runs.{State, first-state, Carried, reply-to, Answers, faulty, carried, Run, sheet-max}
+use Rattle.sheet.specs.Runs.{State, first-state, Executed, reply-to, Answers, faulty, executed, Run, sheet-max}
 use Rattle.sheet.specs.declared.command.Command.{Command}
 use Rattle.sheet.specs.declared.command.Command.the-variants.{Net, Link, Ready, Planner}
 use Rattle.sheet.specs.declared.refusal.Refusal.{Refusal}
@@ -33,7 +33,7 @@ names-read l (Err e) = refl
 -- an answer names its own line
 names : (s : State) (l : SheetLine) (r : Reply) (t : State) → Answers s l r t → Names-line l r
 names s l r t (faulty f a x g) = subst (Names-line l) (sym x) refl
-names s l r t (carried c o a says g x) = subst (Names-line l) (sym x) (names-read l o)
+names s l r t (executed c o a says g x) = subst (Names-line l) (sym x) (names-read l o)
 
 -- each line has a reply, in turn
 pub one-reply-each : One-reply-each
@@ -54,19 +54,19 @@ one-account sheet a b x y = ⊎-elim
     (cases-lt sheet-max (length sheet))
 
 -- a line that is read and refused leaves the state as it was
-carried-refused : (s : State) (c : Command) (e : Refusal) (t : State) → Carried s c (Err e) t → t ≡ s
-carried-refused s (Net n) e t (Ok u, a, g, x) = absurd (clash (cc))
-carried-refused s (Net n) e t (Err d, a, g, x) = λ i. record { stage = g i; net = a .1 i }
-carried-refused s (Link from to) e t (Ok k, a, g, x) = absurd (clash (cc))
-carried-refused s (Link from to) e t (Err d, a, g, x) = λ i. record { stage = g i; net = a .1 i }
-carried-refused s Ready e t (a, x) = absurd (clash (cc))
-carried-refused s (Planner k) e t (a, x) = a
+executed-refused : (s : State) (c : Command) (e : Refusal) (t : State) → Executed s c (Err e) t → t ≡ s
+executed-refused s (Net n) e t (Ok u, a, g, x) = absurd (clash (cc))
+executed-refused s (Net n) e t (Err d, a, g, x) = λ i. record { stage = g i; net = a .1 i }
+executed-refused s (Link from to) e t (Ok k, a, g, x) = absurd (clash (cc))
+executed-refused s (Link from to) e t (Err d, a, g, x) = λ i. record { stage = g i; net = a .1 i }
+executed-refused s Ready e t (a, x) = absurd (clash (cc))
+executed-refused s (Planner k) e t (a, x) = a
 
 -- a line that is refused leaves the state as it was
 pub refusal-changes-nothing : Refusal-changes-nothing
 refusal-changes-nothing s l e line place t (faulty f a x g) = g
-refusal-changes-nothing s l e line place t (carried c (Ok u) a says g x) = absurd (clash (cc))
-refusal-changes-nothing s l e line place t (carried c (Err d) a says g x) = carried-refused s c d t g
+refusal-changes-nothing s l e line place t (executed c (Ok u) a says g x) = absurd (clash (cc))
+refusal-changes-nothing s l e line place t (executed c (Err d) a says g x) = executed-refused s c d t g
 
 -- without a refused line the replies to the others are the same
 pub refused-line-is-nothing : Refused-line-is-nothing
@@ -86,7 +86,7 @@ other-adds : (s : State) (l : SheetLine) (c : Command) (r : Reply) (t : State) �
 other-adds s l c r t says other same = inr (λ a b also done. other a b (says-once l c (Link a b) says also), same)
 
 -- what a line that is read adds to the links
-read-adds : (s : State) (l : SheetLine) (c : Command) (o : Result (Unit {0}) Refusal) (t : State) → Says l c → Carried s c o t → Adds s l (reply-to l o) t
+read-adds : (s : State) (l : SheetLine) (c : Command) (o : Result (Unit {0}) Refusal) (t : State) → Says l c → Executed s c o t → Adds s l (reply-to l o) t
 read-adds s l (Net n) o t says (Ok u, a, g, x) = other-adds s l (Net n) (reply-to l o) t says (λ a b e. clash (cc)) (ap (λ v. v .links) (a .1))
 read-adds s l (Net n) o t says (Err d, a, g, x) = other-adds s l (Net n) (reply-to l o) t says (λ a b e. clash (cc)) (ap (λ v. v .links) (a .1))
 read-adds s l (Link from to) o t says (Ok k, a, g, x) = inl (from, to, says, ap (reply-to l) x, ap (λ v. v .links) (a .2))
@@ -97,7 +97,7 @@ read-adds s l (Planner k) o t says (a, x) = other-adds s l (Planner k) (reply-to
 -- what a line adds to the links
 adds : (s : State) (l : SheetLine) (r : Reply) (t : State) → Answers s l r t → Adds s l r t
 adds s l r t (faulty f a x g) = inr (λ a b also done. clash (cc), ap (λ v. v .net .links) g)
-adds s l r t (carried c o a says g x) = subst (λ q. Adds s l q t) (sym x) (read-adds s l c o t says g)
+adds s l r t (executed c o a says g x) = subst (λ q. Adds s l q t) (sym x) (read-adds s l c o t says g)
 
 -- the links after some lines are those before, and then those that the lines were granted
 pub granted : (s : State) (ls : List SheetLine) (rs : List Reply) (t : State) → Run s ls rs t → (ks : List network-link.Link) × (t .net .links ≡ s .net .links ++ ks) × Links-granted ls rs ks

@@ -30,6 +30,7 @@ use Rattle.sheet.specs.declared.token.Token.the-variants.{Word, Number}
 abbrev pub word-at : List SheetWord → ℕ → SheetWord
 word-at ws k = getD ws k (record { place = 0; text = [] })
 
+-- the fault of a word at a place that is no number
 abbrev pub not-a-number : ℕ → Fault
 not-a-number p = record { refusal = NotANumber; place = p }
 

@@ -16,8 +16,8 @@ use Rattle.std.specs.declared.result.Result.the-variants.{Ok, Err}
 use Rattle.sheet.specs.Commands.{line-rules, Says}
 use Rattle.sheet.specs.Lines.{SheetLine, lines}
 use Rattle.sheet.specs.Replies.{written}
-use Rattle.sheet.specs.declared.bay.Bay.{Bay}
-use Rattle.sheet.specs.declared.bay.Bay.the-variants as bays
+use Rattle.sheet.specs.declared.state.SheetState.{SheetState}
+use Rattle.sheet.specs.declared.state.SheetState.the-variants as states
 use Rattle.sheet.specs.declared.command.Command.{Command}
 use Rattle.sheet.specs.declared.command.Command.the-variants.{Net, Link, Ready, Planner}
 use Rattle.sheet.specs.declared.command.Fault.{Fault}
@@ -43,9 +43,9 @@ abbrev pub wired : Draft → State
 wired d = record { stage = stages.Wiring; net = drafted d }
 
 -- the state that a value of the code stands for
-abbrev pub state-of : Bay → State
-state-of (bays.Wiring d) = wired d
-state-of (bays.Closed n) = record { stage = stages.Closed; net = closed n }
+abbrev pub state-of : SheetState → State
+state-of (states.Wiring d) = wired d
+state-of (states.Closed n) = record { stage = stages.Closed; net = closed n }
 
 -- what the network answers, as the outcome of a line
 abbrev pub outcome : {T : Type 0} → Result T NetworkRefusal → Result (Unit {0}) Refusal
@@ -53,11 +53,11 @@ outcome (Ok x) = Ok tt
 outcome (Err e) = Err (Network e)
 
 -- what comes of a line that is read, and the state after it
-abbrev pub Carried : State → Command → Result (Unit {0}) Refusal → State → Type 0
-Carried s (Net n) o t = (r : Result (Unit {0}) NetworkRefusal) × Sets-numbers (s .net) n r (t .net) × (t .stage ≡ s .stage) × (o ≡ outcome r)
-Carried s (Link a b) o t = (r : Result ℕ NetworkRefusal) × Adds-link (s .net) a b r (t .net) × (t .stage ≡ s .stage) × (o ≡ outcome r)
-Carried s Ready o t = (t ≡ record { stage = stages.Closed; net = s .net }) × (o ≡ Ok tt)
-Carried s (Planner k) o t = (t ≡ s) × (o ≡ Err NoPlanner)
+abbrev pub Executed : State → Command → Result (Unit {0}) Refusal → State → Type 0
+Executed s (Net n) o t = (r : Result (Unit {0}) NetworkRefusal) × Sets-numbers (s .net) n r (t .net) × (t .stage ≡ s .stage) × (o ≡ outcome r)
+Executed s (Link a b) o t = (r : Result ℕ NetworkRefusal) × Adds-link (s .net) a b r (t .net) × (t .stage ≡ s .stage) × (o ≡ outcome r)
+Executed s Ready o t = (t ≡ record { stage = stages.Closed; net = s .net }) × (o ≡ Ok tt)
+Executed s (Planner k) o t = (t ≡ s) × (o ≡ Err NoPlanner)
 
 -- the reply to a line that is read, by its outcome
 abbrev pub reply-to : SheetLine → Result (Unit {0}) Refusal → Reply
@@ -67,7 +67,7 @@ reply-to l (Err e) = Refused e (l .number) (l .place)
 -- the line l, in the state s, is answered r, and t is the state after it
 pub data Answers (s : State) (l : SheetLine) (r : Reply) (t : State) : Type 0 where
   faulty : (f : Fault) → First (line-rules (s .stage) l) (Some f) → r ≡ Refused (Sheet (f .refusal)) (l .number) (f .place) → t ≡ s → Answers s l r t
-  carried : (c : Command) (o : Result (Unit {0}) Refusal) → First (line-rules (s .stage) l) None → Says l c → Carried s c o t → r ≡ reply-to l o → Answers s l r t
+  executed : (c : Command) (o : Result (Unit {0}) Refusal) → First (line-rules (s .stage) l) None → Says l c → Executed s c o t → r ≡ reply-to l o → Answers s l r t
 
 -- lines that are answered one after the other
 abbrev pub Run : State → List SheetLine → List Reply → State → Type 0

@@ -1,9 +1,8 @@
 //! Sheets of lines, read and answered.
 
 mod arguments;
-mod bay;
-mod carrying;
 mod command;
+mod execution;
 mod keyword;
 mod lexer;
 mod line;
@@ -14,6 +13,7 @@ mod reading;
 mod refusal;
 mod reply;
 mod scan;
+mod state;
 mod token;
 mod whole;
 mod wiring;

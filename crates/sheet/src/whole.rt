@@ -8,13 +8,13 @@ ghost use Rattle.std.specs.Vec.{made};
 ghost use Rattle.sheet.specs.Laws.{Sheet-laws};
 ghost use Rattle.sheet.specs.Replies.{written};
 ghost use Rattle.sheet.specs.Runs.{Account, too-long};
-use crate::bay::Bay;
-use crate::carrying::respond;
+use crate::execution::respond;
 use crate::reader::Reader;
 use crate::refusal::Refusal;
 use crate::refusal::SheetRefusal;
 use crate::reply::Reply;
 use crate::reply::ReplyDisplay;
+use crate::state::SheetState;
 use std::alloc::AllocError;
 use std::alloc::Global;
 
@@ -47,10 +47,10 @@ pub fn account(heap: Global, sheet: &[u8]) -> Result<String, AllocError>
         return Ok(out);
     }
     let mut reader = Reader::new(sheet);
-    let mut bay = Bay::new();
+    let mut state = SheetState::new();
     while let Some(line) = reader.next_line() {
-        let (after, reply) = respond(bay, line);
-        bay = after;
+        let (after, reply) = respond(state, line);
+        state = after;
         push_reply(heap, &mut out, reply)?;
     }
     Ok(out)

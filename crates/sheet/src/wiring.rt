@@ -10,12 +10,12 @@ ghost use Rattle.sheet.specs.Readers.{seen-line};
 ghost use Rattle.sheet.specs.Replies.{written};
 ghost use Rattle.sheet.specs.Runs.{state-of};
 ghost use Rattle.sheet.specs.Wirings.{Finishes, Is-ready, Wires, only-refused};
-use crate::bay::Bay;
-use crate::carrying::respond;
+use crate::execution::respond;
 use crate::line::Line;
 use crate::outcome::Outcome;
 use crate::reader::Reader;
 use crate::reply::Reply;
+use crate::state::SheetState;
 use crate::whole::SHEET_MAX;
 use crate::whole::TOO_LONG;
 use crate::whole::push_reply;
@@ -23,24 +23,24 @@ use network::Network;
 use std::alloc::AllocError;
 use std::alloc::Global;
 
-impl Bay {
+impl SheetState {
     // The network, closed if it is not yet.
     fn into_network(self) -> Network
         ensures { λ r. ⌜ closed r ≡ state-of self .net ⌝ }
     {
         match self {
-            Bay::Wiring(draft) => draft.close(),
-            Bay::Closed(network) => network,
+            SheetState::Wiring(draft) => draft.close(),
+            SheetState::Closed(network) => network,
         }
     }
 }
 
 // The network, unless some line was refused.
-fn finish(bay: Bay, refused: String) -> Outcome
-    ensures { λ r. ⌜ Finishes (string-bytes refused) (state-of bay) r ⌝ }
+fn finish(state: SheetState, refused: String) -> Outcome
+    ensures { λ r. ⌜ Finishes (string-bytes refused) (state-of state) r ⌝ }
 {
     if refused.len() == 0 {
-        Outcome::Network(bay.into_network())
+        Outcome::Network(state.into_network())
     } else {
         Outcome::Refused(refused)
     }
@@ -76,14 +76,14 @@ pub fn wire(heap: Global, sheet: &[u8]) -> Result<Outcome, AllocError>
         return Ok(Outcome::Refused(refused));
     }
     let mut reader = Reader::new(sheet);
-    let mut bay = Bay::new();
+    let mut state = SheetState::new();
     while let Some(line) = reader.next_line() {
-        let (after, reply) = respond(bay, line);
-        bay = after;
+        let (after, reply) = respond(state, line);
+        state = after;
         push_refused(heap, &mut refused, reply)?;
         if is_ready(line) {
-            return Ok(finish(bay, refused));
+            return Ok(finish(state, refused));
         }
     }
-    Ok(finish(bay, refused))
+    Ok(finish(state, refused))
 }

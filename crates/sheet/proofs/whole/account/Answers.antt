@@ -18,7 +18,7 @@ returns-then-sheet-gt-SHEET-MAX c =
     record { account = record { long = λ _. text; short = λ few. absurd (omega arith) }; laws = sheet-laws }
 
 pub loop-line-holds : need.loop-line-holds
-loop-line-holds c = (none-yet _ _ _ (c .new-reader .ensures) (c .new-bay .ensures), c .new-out .ensures .bytes)
+loop-line-holds c = (none-yet _ _ _ (c .new-reader .ensures) (c .new-state .ensures), c .new-out .ensures .bytes)
 
 pub loop-line-again : need.loop-line-again
 loop-line-again c =

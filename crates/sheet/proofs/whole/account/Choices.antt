@@ -9,7 +9,7 @@ use Rattle.sheet.proofs.Progress.{Sofar}
 use Rattle.sheet.proofs.whole.account.Given as given
 
 abbrev pub Inv-loop-line : given.InvT-loop-line
-Inv-loop-line l = (h : Sofar (lines (l .sheet)) (lines-left (l .reader)) (state-of (l .bay))) × (string-bytes (l .out) ≡ written (h .done))
+Inv-loop-line l = (h : Sofar (lines (l .sheet)) (lines-left (l .reader)) (state-of (l .state))) × (string-bytes (l .out) ≡ written (h .done))
 
 abbrev pub μ-loop-line : given.MeasureT-loop-line
 μ-loop-line l = length (lines-left (l .reader))

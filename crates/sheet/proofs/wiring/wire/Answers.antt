@@ -9,7 +9,7 @@ use Rattle.sheet.proofs.Progress.{none-yet, one-more, refusals-more, unready-m
 use Rattle.sheet.proofs.wiring.wire.Needs as need
 
 pub loop-line-holds : need.loop-line-holds
-loop-line-holds c = (none-yet _ _ _ (c .new-reader .ensures) (c .new-bay .ensures), c .new-refused .ensures .bytes, tt)
+loop-line-holds c = (none-yet _ _ _ (c .new-reader .ensures) (c .new-state .ensures), c .new-refused .ensures .bytes, tt)
 
 pub returns-then-is-ready : need.returns-then-is-ready
 returns-then-is-ready c =
@@ -45,5 +45,5 @@ returns c =
     let (sofar, text, unready) = c .loop-line .inv in
     record {
       long = λ many. absurd (omega arith);
-      short = λ few. (sofar .seen, sofar .done, _, up-to-end _ _ _ (sofar .split) (c .in-rest .ensures tt .next .0) unready, sofar .ran, subst (λ t. Finishes t (state-of (c .loop-line .bay)) (c .finish-2 .result)) text (c .finish-2 .ensures));
+      short = λ few. (sofar .seen, sofar .done, _, up-to-end _ _ _ (sofar .split) (c .in-rest .ensures tt .next .0) unready, sofar .ran, subst (λ t. Finishes t (state-of (c .loop-line .state)) (c .finish-2 .result)) text (c .finish-2 .ensures));
     }

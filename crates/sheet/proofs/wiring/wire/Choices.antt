@@ -10,7 +10,7 @@ use Rattle.sheet.proofs.Progress.{Sofar, Unready}
 use Rattle.sheet.proofs.wiring.wire.Given as given
 
 abbrev pub Inv-loop-line : given.InvT-loop-line
-Inv-loop-line l = (h : Sofar (lines (l .sheet)) (lines-left (l .reader)) (state-of (l .bay))) × (string-bytes (l .refused) ≡ written (only-refused (h .done))) × Unready (h .seen)
+Inv-loop-line l = (h : Sofar (lines (l .sheet)) (lines-left (l .reader)) (state-of (l .state))) × (string-bytes (l .refused) ≡ written (only-refused (h .done))) × Unready (h .seen)
 
 abbrev pub μ-loop-line : given.MeasureT-loop-line
 μ-loop-line l = length (lines-left (l .reader))

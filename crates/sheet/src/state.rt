@@ -5,7 +5,7 @@ use network::Network;
 
 /// The network of a sheet while its lines are answered.
 #[derive(Drop)]
-pub enum Bay {
+pub enum SheetState {
     /// The network is being wired.
     Wiring(Draft),
     /// The network is closed.

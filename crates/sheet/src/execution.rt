@@ -1,4 +1,4 @@
-//! A line that is read is carried out.
+//! Commands are executed, and lines answered.
 
 ghost use lib.ListN.{length};
 ghost use mathlib.Core.Bool.{true};
@@ -8,14 +8,14 @@ ghost use Rattle.network.specs.Views.{drafted};
 ghost use Rattle.sheet.specs.Keywords.{belongs-in};
 ghost use Rattle.sheet.specs.Readers.{seen-line};
 ghost use Rattle.sheet.specs.Readings.{keyword-of};
-ghost use Rattle.sheet.specs.Runs.{Answers, Carried, first-state, outcome as outcome-of, reply-to, state-of, wired};
-use crate::bay::Bay;
+ghost use Rattle.sheet.specs.Runs.{Answers, Executed, first-state, outcome as outcome-of, reply-to, state-of, wired};
 use crate::command::Command;
 use crate::keyword::Stage;
 use crate::line::Line;
 use crate::reading::read;
 use crate::refusal::Refusal;
 use crate::reply::Reply;
+use crate::state::SheetState;
 use network::Draft;
 use network::NetworkRefusal;
 
@@ -29,41 +29,41 @@ fn outcome<T: Drop>(r: Result<T, NetworkRefusal>) -> Result<(), Refusal>
     }
 }
 
-// Carries out a line of the wiring.
-fn wire_up(mut draft: Draft, command: Command) -> (Bay, Result<(), Refusal>)
-    ensures { λ r. ⌜ Carried (wired draft) command (r .1) (state-of (r .0)) ⌝ }
+// Executes a command of the wiring.
+fn wire_up(mut draft: Draft, command: Command) -> (SheetState, Result<(), Refusal>)
+    ensures { λ r. ⌜ Executed (wired draft) command (r .1) (state-of (r .0)) ⌝ }
 {
     match command {
         Command::Net(numbers) => {
             let answer = draft.set_numbers(numbers);
-            (Bay::Wiring(draft), outcome(answer))
+            (SheetState::Wiring(draft), outcome(answer))
         }
         Command::Link(from, to) => {
             let answer = draft.add_link(from, to);
-            (Bay::Wiring(draft), outcome(answer))
+            (SheetState::Wiring(draft), outcome(answer))
         }
-        Command::Ready => (Bay::Closed(draft.close()), Ok(())),
-        Command::Planner(_) => (Bay::Wiring(draft), Err(Refusal::NoPlanner)),
+        Command::Ready => (SheetState::Closed(draft.close()), Ok(())),
+        Command::Planner(_) => (SheetState::Wiring(draft), Err(Refusal::NoPlanner)),
     }
 }
 
-// Carries out what a line asks for, where it belongs at the stage of the sheet.
-fn carry_out(bay: Bay, command: Command) -> (Bay, Result<(), Refusal>)
-    requires { ⌜ belongs-in (keyword-of command) (state-of bay .stage) ≡ true ⌝ }
-    ensures { λ r. ⌜ Carried (state-of bay) command (r .1) (state-of (r .0)) ⌝ }
+// Executes a command that belongs at the stage of the sheet.
+fn execute(state: SheetState, command: Command) -> (SheetState, Result<(), Refusal>)
+    requires { ⌜ belongs-in (keyword-of command) (state-of state .stage) ≡ true ⌝ }
+    ensures { λ r. ⌜ Executed (state-of state) command (r .1) (state-of (r .0)) ⌝ }
 {
-    match bay {
-        Bay::Wiring(draft) => wire_up(draft, command),
-        Bay::Closed(network) => (Bay::Closed(network), Err(Refusal::NoPlanner)),
+    match state {
+        SheetState::Wiring(draft) => wire_up(draft, command),
+        SheetState::Closed(network) => (SheetState::Closed(network), Err(Refusal::NoPlanner)),
     }
 }
 
-impl Bay {
-    // The bay that every sheet begins with.
-    pub(crate) fn new() -> Bay
+impl SheetState {
+    // The state that every sheet begins with.
+    pub(crate) fn new() -> SheetState
         ensures { λ r. ⌜ state-of r ≡ first-state ⌝ }
     {
-        Bay::Wiring(Draft::new())
+        SheetState::Wiring(Draft::new())
     }
 
     // How far the sheet has come.
@@ -71,8 +71,8 @@ impl Bay {
         ensures { λ r. ⌜ r ≡ state-of (now (self .entry)) .stage ⌝ }
     {
         match self {
-            Bay::Wiring(_) => Stage::Wiring,
-            Bay::Closed(_) => Stage::Closed,
+            SheetState::Wiring(_) => Stage::Wiring,
+            SheetState::Closed(_) => Stage::Closed,
         }
     }
 }
@@ -93,18 +93,18 @@ impl Reply {
     }
 }
 
-// Answers a line, and gives the bay as it is then.
-pub(crate) fn respond(bay: Bay, line: Line) -> (Bay, Reply)
+// Answers a line, and gives the state as it is then.
+pub(crate) fn respond(state: SheetState, line: Line) -> (SheetState, Reply)
     requires { ⌜ line .place + length (now (line .text)) < 2 ^ 64 ⌝ }
-    ensures { λ r. ⌜ Answers (state-of bay) (seen-line (line .entry)) (r .1) (state-of (r .0)) ⌝ }
+    ensures { λ r. ⌜ Answers (state-of state) (seen-line (line .entry)) (r .1) (state-of (r .0)) ⌝ }
 {
-    match read(line, bay.stage()) {
+    match read(line, state.stage()) {
         Ok(command) => {
-            let (after, outcome) = carry_out(bay, command);
+            let (after, outcome) = execute(state, command);
             (after, Reply::to(line, outcome))
         }
         Err(fault) => (
-            bay,
+            state,
             Reply::Refused {
                 refusal: Refusal::Sheet(fault.refusal),
                 line: line.number,

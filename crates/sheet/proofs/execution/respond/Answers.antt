@@ -2,13 +2,13 @@ use mathlib.Core.Path.{refl, sym, subst}
 use Rattle.sheet.specs.Commands.{line-rules}
 use Rattle.sheet.specs.Readers.{seen-line}
 use Rattle.sheet.specs.Readings.{Reads}
-use Rattle.sheet.specs.Runs.{faulty, carried, state-of}
-use Rattle.sheet.proofs.carrying.respond.Needs as need
+use Rattle.sheet.specs.Runs.{faulty, executed, state-of}
+use Rattle.sheet.proofs.execution.respond.Needs as need
 
 pub returns-in-Ok : need.returns-in-Ok
 returns-in-Ok c =
     let was = rw (c .stage .ensures) at (c .in-Ok .ensures tt) in
-    carried (c .in-Ok .command) (c .carry-out-after .result .1) (was .0) (was .1) (c .carry-out-after .ensures) (c .to .ensures)
+    executed (c .in-Ok .command) (c .execute-after .result .1) (was .0) (was .1) (c .execute-after .ensures) (c .to .ensures)
 
 pub returns-in-Err : need.returns-in-Err
 returns-in-Err c = faulty (c .in-Err .fault) (rw (c .stage .ensures) at (c .in-Err .ensures tt)) refl refl
