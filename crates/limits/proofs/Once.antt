@@ -1,9 +1,11 @@
 -- Of the rules of a call at most one refusal counts. Assumes nothing.
 use mathlib.Core.List.{List, [], _∷_, _++_}
-use mathlib.Core.Logic.{inl, inr}
+use mathlib.Core.Logic.{inl, inr, ⊎-elim}
 use mathlib.Core.Path.{_≡_, sym, _∙_}
+use Rattle.limits.specs.Ranges.{Within}
 use Rattle.limits.specs.Refusals.{Rule, First}
-use Prim.Native.Nat.{ℕ}
+use Rattle.std.proofs.shelf.Tests.{cases-lt}
+use Prim.Native.Nat.{ℕ, _<_}
 use native.Mathlib.Omega.{arith}
 use Rattle.std.specs.declared.option.Option.{Option}
 use Rattle.std.specs.declared.option.Option.the-variants.{Some, None}
@@ -26,3 +28,20 @@ pub first-passed : {R : Type 0} (rules more : List (Rule R)) (o : Option R) → 
 first-passed [] more o a b = b
 first-passed (r ∷ rs) more o (inl a) b = absurd (let z : _≡_ {A = ℕ} 0 1 = cc in omega arith)
 first-passed (r ∷ rs) more o (inr a) b = inr (a .0, first-passed rs more o (a .1) b)
+
+-- no rule's condition holds
+abbrev pub None-hold : {R : Type 0} → List (Rule R) → Type 0
+None-hold [] = Unit {0}
+None-hold (r ∷ rs) = (r .when → ⊥) × None-hold rs
+
+pub none-hold : {R : Type 0} (rules : List (Rule R)) → First rules None → None-hold rules
+none-hold [] a = tt
+none-hold (r ∷ rs) (inl a) = absurd (let z : _≡_ {A = ℕ} 0 1 = cc in omega arith)
+none-hold (r ∷ rs) (inr a) = (a .0, none-hold rs (a .1))
+
+-- a range is decided
+pub within-or-not : (low high n : ℕ) → ((Within low high n → ⊥) → ⊥) → Within low high n
+within-or-not low high n both = record {
+  least = ⊎-elim (λ below. absurd (both (λ w. omega (arith, w .least)))) (λ h. h) (cases-lt n low);
+  most = ⊎-elim (λ above. absurd (both (λ w. omega (arith, w .most)))) (λ h. h) (cases-lt high n);
+}
