@@ -1,7 +1,7 @@
 -- Whole books: what each call keeps, and that it has one answer. Assumes nothing.
 use mathlib.Core.Bool.{Bool}
 use mathlib.Core.List.{List, [], _∷_}
-use mathlib.Core.Logic.{_⊎_, inl, inr, ⊎-elim}
+use mathlib.Core.Logic.{_⊎_, ⊎-elim}
 use mathlib.Core.Path.{_≡_, refl, sym, ap, subst, _∙_}
 use Prim.Native.Nat.{ℕ, zero, suc, _+_, _-_, _≤_, _<_}
 use native.Mathlib.Omega.{arith}
@@ -18,7 +18,7 @@ use Rattle.std.specs.declared.result.Result.the-variants.{Ok, Err}
 use Rattle.book.specs.Calls.{tick-rules, book-rules, release-rules, Tells-run, Holds, Tells-holder, Books, Releases}
 use Rattle.book.specs.Laws.{Stays-formed, Answers-alike, Book-laws}
 use Rattle.book.specs.Meanings.{Meaning, row, total, All-orderly, Formed, with-row}
-use Rattle.book.specs.Spans.{Span, span, Fits, Orderly, None-begins, In, insert, without}
+use Rattle.book.specs.Spans.{Span, Fits, Orderly, insert, without}
 use Rattle.book.specs.declared.refusal.BookRefusal.{BookRefusal}
 use Rattle.book.specs.declared.refusal.Holding.{Holding}
 use Rattle.book.proofs.Rows.{run-is-one, free-throughout, insert-covers-its-own, insert-counts, insert-keeps, release-frees-its-own, release-counts, release-keeps, begins-once, in-begins}

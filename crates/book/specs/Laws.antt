@@ -4,10 +4,9 @@ use mathlib.Core.List.{List}
 use mathlib.Core.Logic.{_⊎_}
 use mathlib.Core.Path.{_≡_}
 use Prim.Native.Nat.{ℕ, _+_, _<_}
-use lib.ListN.{length}
 use Rattle.std.specs.declared.option.Option.{Option}
 use Rattle.std.specs.declared.result.Result.{Result}
-use Rattle.std.specs.declared.result.Result.the-variants.{Ok, Err}
+use Rattle.std.specs.declared.result.Result.the-variants.{Ok}
 use Rattle.book.specs.Calls.{Tells-run, Tells-holder, Books, Releases}
 use Rattle.book.specs.Meanings.{Meaning, Formed, total}
 use Rattle.book.specs.Spans.{Span, Covers, Free, round, Stretch, Run, In, Orderly, insert, without}

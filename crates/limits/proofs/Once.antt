@@ -5,7 +5,7 @@ use mathlib.Core.Path.{_≡_, sym, _∙_}
 use Rattle.limits.specs.Ranges.{Within}
 use Rattle.limits.specs.Refusals.{Rule, First}
 use Rattle.std.proofs.shelf.Tests.{cases-lt}
-use Prim.Native.Nat.{ℕ, _<_}
+use Prim.Native.Nat.{ℕ}
 use native.Mathlib.Omega.{arith}
 use Rattle.std.specs.declared.option.Option.{Option}
 use Rattle.std.specs.declared.option.Option.the-variants.{Some, None}

@@ -1,10 +1,7 @@
 -- A quotient that is rounded up is the fewest that are enough. Assumes nothing.
-use mathlib.Core.Bool.{true, _||_}
-use mathlib.Core.Path.{_≡_}
-use Prim.Native.Nat.{ℕ, _+_, _-_, _*_, _/_, _%_, _≤_, _<_}
-use native.Mathlib.Nat.{add-mul, div-add-mod', mod-lt, lt-of-mul-lt-mul-right, mul-le-mul}
+use Prim.Native.Nat.{ℕ, _+_, _-_, _*_, _/_, _≤_, _<_}
+use native.Mathlib.Nat.{add-mul, div-add-mod', mod-lt, lt-of-mul-lt-mul-right}
 use native.Mathlib.Omega.{arith}
-use lib.Dec.{eqb}
 use Rattle.std.proofs.shelf.Ways.{tells}
 use Rattle.network.specs.Net.{Speed}
 

@@ -1,18 +1,17 @@
 -- Every draft stands for a sound network, and each call keeps it so. Assumes nothing.
-use mathlib.Core.Bool.{Bool, true, false, Bool-set}
+use mathlib.Core.Bool.{Bool, Bool-set}
 use mathlib.Core.HLevel.{⊥-prop}
-use mathlib.Core.List.{List, [], _∷_, _++_}
+use mathlib.Core.List.{[], _∷_, _++_}
 use mathlib.Core.Logic.{∥∥₁-elim, ⊎-elim}
-use mathlib.Core.Path.{_≡_, refl, sym, ap, subst, _∙_}
+use mathlib.Core.Path.{_≡_, sym, ap, subst, _∙_}
 use Prim.Native.Nat.{ℕ, _+_, _-_, _≤_, _<_}
 use native.Mathlib.Bridge.{le-prop}
-use native.Mathlib.Nat.{ℕ-set}
 use native.Mathlib.Omega.{arith}
-use lib.ListN.{length, getD, take, set}
+use lib.ListN.{length, getD, set}
 use Rattle.limits.specs.Ranges.{Within, link-max}
-use Rattle.std.proofs.shelf.Lists.{length-push, getD-push, getD-append-left, take-more-set}
+use Rattle.std.proofs.shelf.Lists.{length-push, getD-push, getD-append-left}
 use Rattle.std.proofs.shelf.Tests.{cases-lt}
-use Rattle.network.specs.Net.{Net, Sound, In-range, Ends, Linked, Link-is, Node, link, nth-link, Speed}
+use Rattle.network.specs.Net.{Net, Sound, In-range, Ends, Linked, link, nth-link}
 use Rattle.network.specs.declared.numbers.Link.{Link}
 use Rattle.network.specs.declared.numbers.Numbers.{Numbers}
 use Rattle.network.specs.declared.draft.Draft.{Draft}

@@ -5,7 +5,7 @@ use Prim.Native.Nat.{ℕ, _+_, _≤_, _<_}
 use lib.ListN.{length}
 use Rattle.limits.specs.Ranges.{link-max, Within}
 use Rattle.limits.specs.Refusals.{Rule, First}
-use Rattle.network.specs.Net.{Net, In-range, Ends, Linked, Link-is, link, nth-link}
+use Rattle.network.specs.Net.{Net, In-range, Ends, Linked, Link-is, link}
 use Rattle.network.specs.declared.numbers.Link.{Link}
 use Rattle.network.specs.declared.numbers.Numbers.{Numbers}
 use Rattle.network.specs.declared.refusal.NetworkRefusal.{NetworkRefusal}

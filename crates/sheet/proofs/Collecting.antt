@@ -1,8 +1,8 @@
 -- The words after the first, one more at a time. Assumes nothing.
-use mathlib.Core.List.{List, [], _∷_, _++_, map, append-assoc, append-nil, map-append}
-use mathlib.Core.Logic.{_⊎_, inl, inr, ⊎-elim, _≢_}
+use mathlib.Core.List.{List, [], _∷_, _++_, map, append-assoc, map-append}
+use mathlib.Core.Logic.{_⊎_, inl, inr, ⊎-elim}
 use mathlib.Core.Path.{_≡_, refl, sym, ap, subst, _∙_}
-use Prim.Native.Nat.{ℕ, _+_, _≤_, _<_}
+use Prim.Native.Nat.{ℕ, _+_, _<_}
 use native.Mathlib.Omega.{arith}
 use lib.ListN.{length, getD, set, replicate, length-set, length-append}
 use Rattle.limits.proofs.Once.{first-found, first-passed}
@@ -78,11 +78,6 @@ one-more ws next left k a t h e told few = record {
   seven = noted-seven a k t (h .seven);
   collected = subst (λ n. Collected (h .done ++ (token-word t ∷ [])) (noted a n t)) (h .many) (collected-more (h .done) a t (h .seven) (omega (arith, h .many)) (h .collected) told);
 }
-
-pub no-more : (ws left : List SheetWord) (k : ℕ) (a : Arguments) → Sofar ws left k a → left ≡ [] → (length ws ≡ k) × Collected ws a
-no-more ws left k a h e =
-    let all : ws ≡ h .done = h .split ∙ ap (λ l. h .done ++ l) e ∙ append-nil (h .done) in
-    (ap length all ∙ h .many, subst (λ l. Collected l a) (sym all) (h .collected))
 
 pub too-many : (ws left rest : List SheetWord) (w : SheetWord) (k : ℕ) (a : Arguments) → Sofar ws left k a → left ≡ w ∷ rest → length ws ≡ k → ⊥
 too-many ws left rest w k a h e same =

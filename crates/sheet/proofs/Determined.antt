@@ -1,5 +1,4 @@
 -- A line, in a state of its sheet, has one answer and leaves one state. Assumes nothing.
-use mathlib.Core.Bool.{cond}
 use mathlib.Core.List.{List, [], _∷_, map}
 use mathlib.Core.Path.{_≡_, refl, sym, ap, subst, _∙_}
 use Prim.Native.Nat.{ℕ}
@@ -15,25 +14,16 @@ use Rattle.sheet.specs.Readings.{command-of, keyword-of}
 use Rattle.sheet.specs.Runs.{State, outcome, Executed, reply-to, Answers, faulty, executed, Run}
 use Rattle.sheet.specs.declared.command.Command.{Command}
 use Rattle.sheet.specs.declared.command.Command.the-variants.{Net, Link, Ready, Planner}
-use Rattle.sheet.specs.declared.keyword.Keyword.{Keyword}
 use Rattle.sheet.specs.declared.keyword.Keyword.the-variants as words
 use Rattle.sheet.specs.declared.refusal.Refusal.{Refusal}
 use Rattle.sheet.specs.declared.reply.Reply.{Reply}
 use Rattle.sheet.proofs.Spelling.{spelled-once}
-
--- a word is one number at most
-pub numeral-once : {w : List ℕ} {m n : ℕ} → Numeral w m → Numeral w n → m ≡ n
-numeral-once a b = a .value ∙ sym (b .value)
 
 -- words that are numbers are their values
 numerals-are : (ws : List SheetWord) (ns : List ℕ) → Numerals ws ns → ns ≡ map (λ w. value-of (w .text)) ws
 numerals-are [] ns a = a
 numerals-are (w ∷ ws) [] a = absurd a
 numerals-are (w ∷ ws) (n ∷ ns) a = λ i. a .0 .value i ∷ numerals-are ws ns (a .1) i
-
--- words are one list of numbers at most
-pub numerals-once : (ws : List SheetWord) (ms ns : List ℕ) → Numerals ws ms → Numerals ws ns → ms ≡ ns
-numerals-once ws ms ns a b = numerals-are ws ms a ∙ sym (numerals-are ws ns b)
 
 -- a line begins with the keyword of what it says
 begins : (l : SheetLine) (c : Command) → Says l c → Begins l (keyword-of c)

@@ -1,5 +1,5 @@
 -- Lines and words stand at their places. Assumes nothing.
-use mathlib.Core.Path.{_≡_, refl, sym, ap, subst, _∙_}
+use mathlib.Core.Path.{_≡_, sym, ap, subst, _∙_}
 use mathlib.Core.List.{List, [], _∷_, _++_}
 use Prim.Native.Nat.{ℕ, zero, suc, _+_, _-_, _<_, _≤_}
 use native.Mathlib.Nat.{add-assoc}
@@ -7,12 +7,8 @@ use native.Mathlib.Omega.{arith}
 use lib.ListN.{length, getD, take, drop, length-drop, length-append}
 use lib.Seq.{take-append-seam, drop-append-add, drop-drop}
 use Rattle.sheet.specs.Pieces.{pieces, led}
-use Rattle.sheet.specs.Lines.{SheetLine, SheetWord, Stands, ended, numbered, placed, words-from, first-word, arguments, Lines-in-place, Words-in-place}
+use Rattle.sheet.specs.Lines.{SheetLine, SheetWord, Stands, ended, numbered, placed, Lines-in-place, Words-in-place}
 use Rattle.sheet.proofs.Cuts.{rejoins}
-
--- the words of a line are its first word and its arguments
-pub first-and-arguments : (l : SheetLine) → words-from (l .place) (l .text) ≡ first-word l ∷ arguments l
-first-and-arguments l = refl
 
 module _ (b : ℕ) (bs : List ℕ) where
   -- from the offset o on, bs is t and then ts, with one b before each

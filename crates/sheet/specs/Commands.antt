@@ -15,7 +15,6 @@ use Rattle.sheet.specs.declared.keyword.Keyword.{Keyword}
 use Rattle.sheet.specs.declared.keyword.Keyword.the-variants as words
 use Rattle.sheet.specs.declared.keyword.Stage.{Stage}
 use Rattle.sheet.specs.declared.keyword.Stage.the-variants as stages
-use Rattle.sheet.specs.declared.refusal.SheetRefusal.{SheetRefusal}
 use Rattle.sheet.specs.declared.refusal.SheetRefusal.the-variants.{UnknownWord, WordCount, NotANumber, OtherSide}
 
 -- the line begins with the keyword

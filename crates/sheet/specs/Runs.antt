@@ -9,7 +9,6 @@ use Rattle.network.specs.Net as network
 use Rattle.network.specs.Views.{drafted, closed}
 use Rattle.network.specs.declared.draft.Draft.{Draft}
 use Rattle.network.specs.declared.refusal.NetworkRefusal.{NetworkRefusal}
-use Rattle.std.specs.declared.option.Option.{Option}
 use Rattle.std.specs.declared.option.Option.the-variants.{Some, None}
 use Rattle.std.specs.declared.result.Result.{Result}
 use Rattle.std.specs.declared.result.Result.the-variants.{Ok, Err}

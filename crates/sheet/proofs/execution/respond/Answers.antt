@@ -1,8 +1,5 @@
-use mathlib.Core.Path.{refl, sym, subst}
-use Rattle.sheet.specs.Commands.{line-rules}
-use Rattle.sheet.specs.Readers.{seen-line}
-use Rattle.sheet.specs.Readings.{Reads}
-use Rattle.sheet.specs.Runs.{faulty, executed, state-of}
+use mathlib.Core.Path.{refl}
+use Rattle.sheet.specs.Runs.{faulty, executed}
 use Rattle.sheet.proofs.execution.respond.Needs as need
 
 pub returns-in-Ok : need.returns-in-Ok

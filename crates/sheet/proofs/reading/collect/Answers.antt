@@ -1,6 +1,5 @@
 use mathlib.Core.Path.{_≡_, sym, subst, _∙_}
 use native.Mathlib.Omega.{arith}
-use Rattle.sheet.specs.Readers.{words-left}
 use Rattle.sheet.proofs.Collecting.{Sofar, one-more, too-many}
 use Rattle.sheet.proofs.reading.collect.Needs as need
 

@@ -1,12 +1,12 @@
-use mathlib.Core.Logic.{inl, inr, ⊎-elim}
-use mathlib.Core.Path.{_≡_, refl, sym, subst}
+use mathlib.Core.Logic.{⊎-elim}
+use mathlib.Core.Path.{refl, sym, subst}
 use Prim.Native.Nat.{_-_, _<_}
 use native.Mathlib.Omega.{arith}
 use Rattle.limits.proofs.Once.{none-hold}
 use Rattle.std.proofs.shelf.Tests.{cases-lt}
 use Rattle.book.specs.Bare.{bare}
 use Rattle.book.specs.Calls.{tick-rules}
-use Rattle.book.specs.Spans.{Free, Run, None-begins}
+use Rattle.book.specs.Spans.{Free, Run}
 use Rattle.book.proofs.Empty.{empty-row, empty-run}
 use Rattle.book.proofs.tests.RoomlessBook.run.Needs as need
 

@@ -1,4 +1,3 @@
-use mathlib.Core.Path.{_≡_}
 use Rattle.network.specs.Net.{Link-is}
 use Rattle.network.specs.Views.{drafted}
 use Prim.Native.Nat.{_+_}

@@ -1,4 +1,3 @@
-use mathlib.Core.List.{[], _∷_}
 use native.Mathlib.Omega.{arith}
 use lib.Chars.{codes}
 use Rattle.std.proofs.shelf.Tests.{ltb-false, leb-false, ltb-true, leb-true, eqb-true}
