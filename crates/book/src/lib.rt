@@ -1,5 +1,7 @@
 //! A book of bookings: which ticks of which link are taken, by what it means and not by how it is kept.
 
+#![tactic(auto)]
+
 ghost use Rattle.std.specs.Prelude.{◌≡◌, Decides};
 ghost use Rattle.book.specs.Calls.{Books, Releases, TellsHolder, TellsRun, TellsStretch, tick_rules};
 ghost use Rattle.limits.specs.Refusals.{First};

@@ -1,5 +1,7 @@
 //! The same calls on two books of any kinds: books that mean the same answer alike.
 
+#![tactic(auto)]
+
 mod asked;
 mod call;
 mod draw;

@@ -1,5 +1,7 @@
 //! A book of bookings kept as chains of lent records.
 
+#![tactic(auto)]
+
 mod booking;
 mod calls;
 mod chain_book;

@@ -1,5 +1,7 @@
 //! Keyed chains over lent slots, for every kind of record that has a number as its key.
 
+#![tactic(auto)]
+
 mod board;
 mod calls;
 mod chains;

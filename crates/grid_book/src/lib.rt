@@ -1,5 +1,7 @@
 //! A book of bookings that is kept in a grid of lent cells, one for each tick of each link.
 
+#![tactic(auto)]
+
 mod calls;
 mod cell;
 mod grid;

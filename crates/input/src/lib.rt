@@ -1,5 +1,7 @@
 //! Where a program's sheet comes from: the file that its argument names, or standard input.
 
+#![tactic(auto)]
+
 ghost use Rattle.std.specs.Prelude.{◌+◌, ◌≤◌, IfOk, vec_len};
 ghost use Rattle.sheet.specs.Runs.{sheet_max};
 

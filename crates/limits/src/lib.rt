@@ -1,5 +1,7 @@
 //! The ranges that several crates share, each stated once: a constant, a word of the specifications and a test.
 
+#![tactic(auto)]
+
 ghost use Rattle.limits.specs.Ranges.{Cycle, Flow, LinkCount, Tick, FrameSize, PathLinks};
 ghost use Rattle.std.specs.Prelude.{Decides};
 

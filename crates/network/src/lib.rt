@@ -2,6 +2,8 @@
 //!
 //! A `Draft` takes numbers and links; closing uses it up and gives a `Network`, which only answers questions.
 
+#![tactic(auto)]
+
 mod build;
 mod closed;
 mod draft;

@@ -1,5 +1,7 @@
 //! Reads a sheet and prints its account: a reply for each line.
 
+#![tactic(auto)]
+
 ghost use Rattle.std.specs.Prelude.{ℕ, List, IfOk, string_bytes};
 ghost use Rattle.sheet.specs.Runs.{Account};
 

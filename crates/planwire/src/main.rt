@@ -1,5 +1,7 @@
 //! Reads a wiring sheet and prints an account of its network for whoever writes flow lines.
 
+#![tactic(auto)]
+
 ghost use Rattle.std.specs.Prelude.{ℕ, List, IfOk, string_bytes};
 ghost use Rattle.wiring.specs.Texts.{WiringAccount};
 

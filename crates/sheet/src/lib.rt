@@ -1,5 +1,7 @@
 //! Sheets of lines, read and answered.
 
+#![tactic(auto)]
+
 mod arguments;
 mod command;
 mod execution;

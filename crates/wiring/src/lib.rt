@@ -1,5 +1,7 @@
 //! The account of a closed network, as text: its numbers, its links, and how long frames take.
 
+#![tactic(auto)]
+
 ghost use Rattle.std.specs.Prelude.{◌≡◌, ◌^◌, ◌<◌, ◌++◌, length, IfOk, string_bytes, OnOk};
 ghost use Rattle.limits.specs.Ranges.{frame_min, frame_max, path_link_max, LinkCount, PathLinks};
 ghost use Rattle.network.specs.Times.{FrameTime, latency};
