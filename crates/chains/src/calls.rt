@@ -27,31 +27,31 @@ impl<R: Keyed, const N: usize> Chains<'_, R, N> {
 
     /// The record of a chain that has the key.
     pub fn find(&self, chain: u32, key: u32) -> Result<R, ChainRefusal>
-        ensures { Finds keyed (content self.now) chain key result }
+        ensures { Finds R.keyed (content self.now) chain key result }
     {
         find_in(&self.board, chain, key)
     }
 
     /// Puts a record into a chain, in the order of the keys.
     pub fn insert(&mut self, chain: u32, item: R) -> Result<(), ChainRefusal>
-        ensures inserts { Inserts keyed (content self.old) chain item result (content self.new) }
-        ensures ordered { AllAscend keyed (content self.old).rows → AllAscend keyed (content self.new).rows }
+        ensures inserts { Inserts R.keyed (content self.old) chain item result (content self.new) }
+        ensures ordered { AllAscend R.keyed (content self.old).rows → AllAscend R.keyed (content self.new).rows }
     {
         insert_in(&mut self.board, chain, item)
     }
 
     /// Puts a record in the place of the one that has its key, and answers that one.
     pub fn replace(&mut self, chain: u32, item: R) -> Result<R, ChainRefusal>
-        ensures replaces { Replaces keyed (content self.old) chain item result (content self.new) }
-        ensures ordered { AllAscend keyed (content self.old).rows → AllAscend keyed (content self.new).rows }
+        ensures replaces { Replaces R.keyed (content self.old) chain item result (content self.new) }
+        ensures ordered { AllAscend R.keyed (content self.old).rows → AllAscend R.keyed (content self.new).rows }
     {
         replace_in(&mut self.board, chain, item)
     }
 
     /// Takes the record that has the key out of a chain, and answers it.
     pub fn remove(&mut self, chain: u32, key: u32) -> Result<R, ChainRefusal>
-        ensures removes { Removes keyed (content self.old) chain key result (content self.new) }
-        ensures ordered { AllAscend keyed (content self.old).rows → AllAscend keyed (content self.new).rows }
+        ensures removes { Removes R.keyed (content self.old) chain key result (content self.new) }
+        ensures ordered { AllAscend R.keyed (content self.old).rows → AllAscend R.keyed (content self.new).rows }
     {
         remove_in(&mut self.board, chain, key)
     }

@@ -83,7 +83,7 @@ pub fn find_in<R: Keyed, const N: usize>(
     key: u32,
 ) -> Result<R, ChainRefusal>
     requires { Kept N board.now }
-    ensures { Finds keyed (stored board.now) chain key result }
+    ensures { Finds R.keyed (stored board.now) chain key result }
 {
     let Some(first) = first_of(board, chain) else {
         return Err(ChainRefusal::NoChain);
@@ -103,8 +103,8 @@ pub fn insert_in<R: Keyed, const N: usize>(
 ) -> Result<(), ChainRefusal>
     requires { Kept N board.old }
     ensures kept { Kept N board.new }
-    ensures inserts { Inserts keyed (stored board.old) chain item result (stored board.new) }
-    ensures ordered { AllAscend keyed (stored board.old).rows → AllAscend keyed (stored board.new).rows }
+    ensures inserts { Inserts R.keyed (stored board.old) chain item result (stored board.new) }
+    ensures ordered { AllAscend R.keyed (stored board.old).rows → AllAscend R.keyed (stored board.new).rows }
 {
     let Some(first) = first_of(board, chain) else {
         return Err(ChainRefusal::NoChain);
@@ -130,8 +130,8 @@ pub fn remove_in<R: Keyed, const N: usize>(
 ) -> Result<R, ChainRefusal>
     requires { Kept N board.old }
     ensures kept { Kept N board.new }
-    ensures removes { Removes keyed (stored board.old) chain key result (stored board.new) }
-    ensures ordered { AllAscend keyed (stored board.old).rows → AllAscend keyed (stored board.new).rows }
+    ensures removes { Removes R.keyed (stored board.old) chain key result (stored board.new) }
+    ensures ordered { AllAscend R.keyed (stored board.old).rows → AllAscend R.keyed (stored board.new).rows }
 {
     let Some(first) = first_of(board, chain) else {
         return Err(ChainRefusal::NoChain);
@@ -153,8 +153,8 @@ pub fn replace_in<R: Keyed, const N: usize>(
 ) -> Result<R, ChainRefusal>
     requires { Kept N board.old }
     ensures kept { Kept N board.new }
-    ensures replaces { Replaces keyed (stored board.old) chain item result (stored board.new) }
-    ensures ordered { AllAscend keyed (stored board.old).rows → AllAscend keyed (stored board.new).rows }
+    ensures replaces { Replaces R.keyed (stored board.old) chain item result (stored board.new) }
+    ensures ordered { AllAscend R.keyed (stored board.old).rows → AllAscend R.keyed (stored board.new).rows }
 {
     let Some(first) = first_of(board, chain) else {
         return Err(ChainRefusal::NoChain);

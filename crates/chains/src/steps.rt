@@ -65,7 +65,7 @@ pub(crate) fn locate<R: Keyed>(
     stop: Stop,
 ) -> (usize, usize)
     requires { Ends (nexts slots.now) first }
-    ensures { Located stop keyed key (nexts slots.now) (values slots.now) first result.0 result.1 }
+    ensures { Located stop R.keyed key (nexts slots.now) (values slots.now) first result.0 result.1 }
 {
     let mut at = 0;
     let mut next = first;
@@ -88,7 +88,7 @@ pub(crate) fn locate_on<R: Keyed, const N: usize>(
     stop: Stop,
 ) -> (usize, usize)
     requires { Ends (nexts (slots_of board.now)) first }
-    ensures { Located stop keyed key (nexts (slots_of board.now)) (values (slots_of board.now)) first result.0 result.1 }
+    ensures { Located stop R.keyed key (nexts (slots_of board.now)) (values (slots_of board.now)) first result.0 result.1 }
 {
     locate(board.slots, first, key, stop)
 }

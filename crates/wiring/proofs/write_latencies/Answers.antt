@@ -7,10 +7,10 @@ pub loop-links-preserved : goal.loop-links-preserved
 loop-links-preserved c =
     latency_more (closed c.args.network.now) c.args.small c.args.large (string_bytes c.args.out.now) c.loop-links.links-counter _ _
     (omega arith)
-    c.path-ticks-least.ensures
-    c.path-ticks-most.ensures
+    c.path_ticks-least.ensures
+    c.path_ticks-most.ensures
     c.loop-links.invariant
-    c.in-ok-writeln.ensures.bytes
+    c.in_ok-writeln.ensures.bytes
 
 pub returns : goal.returns
 returns c = latency_last (closed c.args.network.now) c.args.small c.args.large (string_bytes c.args.out.now) c.loop-links.links-counter (omega arith) c.loop-links.invariant

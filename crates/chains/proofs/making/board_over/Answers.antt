@@ -7,6 +7,6 @@ use Rattle.chains.proofs.making.board_over.Goals as goal
 
 pub returns : goal.returns
 returns g c = record {
-  kept = blank_kept g.row.N _ refl (length-replicate g.row.N 0) (λ k l. c.clear.ensures k (omega (arith, c.clear.auto.slots)) ∙ ap (λ n. blank n k) (sym c.clear.auto.slots)) c.first-spare-spare.ensures refl;
+  kept = blank_kept g.row.N _ refl (length-replicate g.row.N 0) (λ k l. c.clear.ensures k (omega (arith, c.clear.auto.slots)) ∙ ap (λ n. blank n k) (sym c.clear.auto.slots)) c.first_spare-spare.ensures refl;
   empty = blank_content g.row.N c.clear.new.slots ∙ ap (no_records g.row.N) c.clear.auto.slots;
 }

@@ -23,13 +23,13 @@ pub loop-ticks-preserved : goal.loop-ticks-preserved
 loop-ticks-preserved c = (
   omega arith,
   stretch_more c.args.cycle c.args.row.now c.requires.marked c.args.tick c.requires.ranges.0 c.loop-ticks.ticks c.loop-ticks.invariant.1
-      (sym c.is-free.ensures ∙ same_from_test _ _ c.if-is-free-free.true ∙ c.is-free-free.ensures),
+      (sym c.is_free.ensures ∙ same_from_test _ _ c.if-is_free-free.true ∙ c.is_free-free.ensures),
 )
 
-pub returns-else-is-free-free : goal.returns-else-is-free-free
-returns-else-is-free-free c = record {
+pub returns-else-is_free-free : goal.returns-else-is_free-free
+returns-else-is_free-free c = record {
   stretch = c.loop-ticks.invariant.1;
   most = c.loop-ticks.invariant.0;
   ends = λ _. stretch_ends c.args.cycle c.args.row.now c.requires.marked c.args.tick c.requires.ranges.0 c.loop-ticks.ticks
-      (λ e. apart_from_test _ _ c.if-is-free-free.false (c.is-free.ensures ∙ e ∙ sym c.is-free-free.ensures));
+      (λ e. apart_from_test _ _ c.if-is_free-free.false (c.is_free.ensures ∙ e ∙ sym c.is_free-free.ensures));
 }

@@ -4,11 +4,11 @@ use Rattle.sheet.specs.Numerals.{value_after}
 use Rattle.sheet.proofs.Values.{one_digit_more, six_digits}
 use Rattle.sheet.proofs.numeral.numeral.Goals as goal
 
-pub overflow-mul-value : goal.overflow-mul-value
-overflow-mul-value c = omega (arith, six_digits _ _ c.loop-byte.invariant.1 (omega arith))
+pub overflow_mul-value : goal.overflow_mul-value
+overflow_mul-value c = omega (arith, six_digits _ _ c.loop-byte.invariant.1 (omega arith))
 
-pub overflow-add-value : goal.overflow-add-value
-overflow-add-value c = omega (arith, six_digits _ _ c.loop-byte.invariant.1 (omega arith))
+pub overflow_add-value : goal.overflow_add-value
+overflow_add-value c = omega (arith, six_digits _ _ c.loop-byte.invariant.1 (omega arith))
 
 pub loop-byte-preserved : goal.loop-byte-preserved
 loop-byte-preserved c =
@@ -21,7 +21,7 @@ loop-byte-preserved c =
 pub returns : goal.returns
 returns c =
     let last = at_drop_all (value_after c.loop-byte.value) c.args.text.now c.loop-byte.byte-index c.loop-byte-test.false in
-    let filled : 0 < length c.args.text.now = omega (arith, false-eqb _ 0 c.if-is-empty.ensures) in
+    let filled : 0 < length c.args.text.now = omega (arith, false-eqb _ 0 c.if-is_empty.ensures) in
     record {
       some = filled;
       few = omega arith;

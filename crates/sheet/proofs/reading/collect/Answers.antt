@@ -4,8 +4,8 @@ use Rattle.sheet.proofs.reading.collect.Goals as goal
 
 pub loop-index-preserved : goal.loop-index-preserved
 loop-index-preserved c =
-    let token = c.in-ok-token.ensures in
-    subst (Sofar _ _ _) (sym c.with-so-far.ensures) (one_more _ _ _ _ _ c.in-ok-token.token c.loop-index.invariant token.next token.told (omega arith))
+    let token = c.in_ok-token.ensures in
+    subst (Sofar _ _ _) (sym c.with-so_far.ensures) (one_more _ _ _ _ _ c.in_ok-token.token c.loop-index.invariant token.next token.told (omega arith))
 
 pub returns-in-Some : goal.returns-in-Some
 returns-in-Some c same =

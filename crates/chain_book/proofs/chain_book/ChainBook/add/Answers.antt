@@ -4,13 +4,13 @@ use Rattle.chain_book.proofs.Keeping.{books, books_full, inserts_sound}
 use Rattle.chain_book.specs.Props.{held_of}
 use Rattle.chain_book.proofs.chain_book.ChainBook.add.Goals as goal
 
-pub insert-in-requires : goal.insert-in-requires
-insert-in-requires c = (search rules, (held_of c.args.self.now).kept)
+pub insert_in-requires : goal.insert_in-requires
+insert_in-requires c = (search rules, (held_of c.args.self.now).kept)
 
-pub invariant-of-self : goal.invariant-of-self
-invariant-of-self c =
+pub invariant_of-self : goal.invariant_of-self
+invariant_of-self c =
     let b = c.args.self.now in
-    (∣ record { kept = c.insert-in.ensures.kept; sound = inserts_sound b.cycle b.links (stored b.board) (held_of b).sound c.args.link c.args.booking c.requires c.insert-in.result _ c.insert-in.ensures.inserts } ∣₁, tt)
+    record { held = ∣ record { kept = c.insert_in.ensures.kept; sound = inserts_sound b.cycle b.links (stored b.board) (held_of b).sound c.args.link c.args.booking c.requires c.insert_in.result _ c.insert_in.ensures.inserts } ∣₁ }
 
 pub returns-in-Ok : goal.returns-in-Ok
 returns-in-Ok c = let b = c.args.self.now in books b.cycle b.links (stored b.board) (held_of b).sound c.args.link c.args.booking c.requires _ c.in-Ok.ensures.inserts

@@ -7,8 +7,8 @@ use Rattle.chain_book.proofs.Keeping.{there, link_row, link_orderly}
 use Rattle.chain_book.specs.Props.{held_of}
 use Rattle.chain_book.proofs.chain_book.ChainBook.booked_for.Goals as goal
 
-pub walk-in-requires : goal.walk-in-requires
-walk-in-requires c = (search rules, (held_of c.args.self.now).kept)
+pub walk_in-requires : goal.walk_in-requires
+walk_in-requires c = (search rules, (held_of c.args.self.now).kept)
 
 pub extend-reach-requires : goal.extend-reach-requires
 extend-reach-requires c =
@@ -16,7 +16,7 @@ extend-reach-requires c =
     let s = (held_of b).sound in
     let (w, l) = there b.cycle b.links (stored b.board) s c.args.link c.args.tick c.requires in
     record {
-      ordered = subst (λ bs. Orderly b.cycle (spans_of bs)) (sym c.walk-in.ensures) (link_orderly b.cycle b.links (stored b.board) s c.args.link w);
+      ordered = subst (λ bs. Orderly b.cycle (spans_of bs)) (sym c.walk_in.ensures) (link_orderly b.cycle b.links (stored b.board) s c.args.link w);
       ranges = (l, (c.loop-run.invariant.0, s.ranged.cycled.most));
     }
 
@@ -25,7 +25,7 @@ returns-then-reach-run c =
     let b = c.args.self.now in
     let s = (held_of b).sound in
     let (w, l) = there b.cycle b.links (stored b.board) s c.args.link c.args.tick c.requires in
-    let same = ap spans_of c.walk-in.ensures ∙ sym (link_row b.cycle b.links (stored b.board) s c.args.link w) in
+    let same = ap spans_of c.walk_in.ensures ∙ sym (link_row b.cycle b.links (stored b.board) s c.args.link w) in
     let e = subst (λ ss. Extends b.cycle ss c.args.tick c.loop-run.run c.extend-reach.result) same c.extend-reach.ensures in
     record { covered = c.loop-run.invariant.1; most = c.loop-run.invariant.0; ends = λ less. e.stops c.if-reach-run.true less }
 
@@ -34,6 +34,6 @@ loop-run-preserved c =
     let b = c.args.self.now in
     let s = (held_of b).sound in
     let (w, l) = there b.cycle b.links (stored b.board) s c.args.link c.args.tick c.requires in
-    let same = ap spans_of c.walk-in.ensures ∙ sym (link_row b.cycle b.links (stored b.board) s c.args.link w) in
+    let same = ap spans_of c.walk_in.ensures ∙ sym (link_row b.cycle b.links (stored b.board) s c.args.link w) in
     let e = subst (λ ss. Extends b.cycle ss c.args.tick c.loop-run.run c.extend-reach.result) same c.extend-reach.ensures in
     (e.most, e.covered c.loop-run.invariant.1)

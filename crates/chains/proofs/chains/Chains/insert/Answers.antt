@@ -3,8 +3,8 @@ use mathlib.Core.Logic.{∥∥₁_elim}
 use Rattle.chains.proofs.Props.{kept_prop}
 use Rattle.chains.proofs.chains.Chains.insert.Goals as goal
 
-pub insert-in-requires : goal.insert-in-requires
-insert-in-requires g c = (search rules, ∥∥₁_elim c.args.self.now.kept (kept_prop _ _) (λ k. k))
+pub insert_in-requires : goal.insert_in-requires
+insert_in-requires g c = (search rules, ∥∥₁_elim c.args.self.now.kept (kept_prop _ _) (λ k. k))
 
-pub invariant-of-self : goal.invariant-of-self
-invariant-of-self g c = (∣ c.insert-in.ensures.kept ∣₁, tt)
+pub invariant_of-self : goal.invariant_of-self
+invariant_of-self g c = record { kept = ∣ c.insert_in.ensures.kept ∣₁ }

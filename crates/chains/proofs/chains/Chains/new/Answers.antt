@@ -1,8 +1,8 @@
 use Rattle.chains.proofs.Ordered.{chain_laws}
 use Rattle.chains.proofs.chains.Chains.new.Goals as goal
 
-pub invariant-of-result : goal.invariant-of-result
-invariant-of-result g c = (∣ c.board-over.ensures.kept ∣₁, tt)
+pub invariant_of-result : goal.invariant_of-result
+invariant_of-result g c = record { kept = ∣ c.board_over.ensures.kept ∣₁ }
 
 pub returns : goal.returns
-returns g c = record { empty = c.board-over.ensures.empty; laws = chain_laws g.R.Keyed.keyed }
+returns g c = record { empty = c.board_over.ensures.empty; laws = chain_laws g.R.Keyed.keyed }

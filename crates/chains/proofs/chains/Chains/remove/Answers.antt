@@ -3,8 +3,8 @@ use mathlib.Core.Logic.{∥∥₁_elim}
 use Rattle.chains.proofs.Props.{kept_prop}
 use Rattle.chains.proofs.chains.Chains.remove.Goals as goal
 
-pub remove-in-requires : goal.remove-in-requires
-remove-in-requires g c = (search rules, ∥∥₁_elim c.args.self.now.kept (kept_prop _ _) (λ k. k))
+pub remove_in-requires : goal.remove_in-requires
+remove_in-requires g c = (search rules, ∥∥₁_elim c.args.self.now.kept (kept_prop _ _) (λ k. k))
 
-pub invariant-of-self : goal.invariant-of-self
-invariant-of-self g c = (∣ c.remove-in.ensures.kept ∣₁, tt)
+pub invariant_of-self : goal.invariant_of-self
+invariant_of-self g c = record { kept = ∣ c.remove_in.ensures.kept ∣₁ }

@@ -15,17 +15,17 @@ paint-requires c =
       ranges = (fits.start, fits.ticks);
     }
 
-pub overflow-add-self : goal.overflow-add-self
-overflow-add-self c =
+pub overflow_add-self : goal.overflow_add-self
+overflow_add-self c =
     let b = c.args.self.now in
     let there = book_link (meaning_of b) c.args.link _ c.requires in
     omega (arith, book_room _ _ _ _ _ (sound_of b) c.args.link there c.args.start c.args.ticks c.args.flow c.requires, (sound_of b).sized.limited)
 
-pub invariant-of-self : goal.invariant-of-self
-invariant-of-self c =
+pub invariant_of-self : goal.invariant_of-self
+invariant_of-self c =
     let b = c.args.self.now in
     let there = book_link (meaning_of b) c.args.link _ c.requires in
-    (∣ (added _ _ _ _ _ (sound_of b) c.args.link there c.args.start c.args.ticks c.args.flow c.requires _ c.paint.ensures).1 ∣₁, tt)
+    record { sound = ∣ (added _ _ _ _ _ (sound_of b) c.args.link there c.args.start c.args.ticks c.args.flow c.requires _ c.paint.ensures).1 ∣₁ }
 
 pub returns : goal.returns
 returns c =

@@ -18,4 +18,4 @@ returns c =
     let b = c.args.self.now in
     let (there, below) = tick_known (meaning_of b) c.args.link c.args.tick c.requires in
     let is = row_known _ _ _ _ _ (sound_of b) c.args.link there ∙ ap spans (sym c.row.ensures) in
-    (c.requires, subst (λ r. Holds r c.args.tick c.begun-at.result) (sym is) (subst (Holds (spans c.row.result.now) c.args.tick) (sym c.begun-at.ensures) (holds_at c.row.result.now c.args.tick)))
+    (c.requires, subst (λ r. Holds r c.args.tick c.begun_at.result) (sym is) (subst (Holds (spans c.row.result.now) c.args.tick) (sym c.begun_at.ensures) (holds_at c.row.result.now c.args.tick)))

@@ -16,21 +16,21 @@ paint-requires c =
       ranges = (fits.start, fits.ticks);
     }
 
-pub overflow-sub-self : goal.overflow-sub-self
-overflow-sub-self c =
+pub overflow_sub-self : goal.overflow_sub-self
+overflow_sub-self c =
     let b = c.args.self.now in
     let h = c.args.holding in
     let there = (tick_known (meaning_of b) c.args.link c.args.start c.requires.0).0 in
     let known = release_known (meaning_of b) c.args.link c.args.start h c.requires.0 c.requires.1 in
     release_some _ _ _ _ _ (sound_of b) c.args.link there c.args.start h.ticks h.flow known c.requires.1
 
-pub invariant-of-self : goal.invariant-of-self
-invariant-of-self c =
+pub invariant_of-self : goal.invariant_of-self
+invariant_of-self c =
     let b = c.args.self.now in
     let h = c.args.holding in
     let there = (tick_known (meaning_of b) c.args.link c.args.start c.requires.0).0 in
     let known = release_known (meaning_of b) c.args.link c.args.start h c.requires.0 c.requires.1 in
-    (∣ (removed _ _ _ _ _ (sound_of b) c.args.link there c.args.start h.ticks h.flow known c.requires.1 _ c.paint.ensures).1 ∣₁, tt)
+    record { sound = ∣ (removed _ _ _ _ _ (sound_of b) c.args.link there c.args.start h.ticks h.flow known c.requires.1 _ c.paint.ensures).1 ∣₁ }
 
 pub returns : goal.returns
 returns c =

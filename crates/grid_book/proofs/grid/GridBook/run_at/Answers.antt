@@ -13,8 +13,8 @@ row-row-requires c =
     let (there, below) = tick_known (meaning_of b) c.args.link c.args.tick c.requires in
     (place_low _ _ _ _ _ (sound_of b) c.args.link there, (sound_of b).sized.cycled.most)
 
-pub alike-for-requires : goal.alike-for-requires
-alike-for-requires c =
+pub alike_for-requires : goal.alike_for-requires
+alike_for-requires c =
     let b = c.args.self.now in
     let (there, below) = tick_known (meaning_of b) c.args.link c.args.tick c.requires in
     record {
@@ -30,6 +30,6 @@ returns c =
     let marked = subst (Marked b.cycle) (sym c.row-row.ensures) (row_marked _ _ _ _ _ (sound_of b) c.args.link there) in
     let is = row_known _ _ _ _ _ (sound_of b) c.args.link there ∙ ap spans (sym c.row-row.ensures) in (
       c.requires,
-      subst (λ r. Decides c.is-free.result (Free b.cycle r c.args.tick)) (sym is) (subst (λ v. Decides v (Free b.cycle (spans cells) c.args.tick)) (sym c.is-free.ensures) (marked c.args.tick below)),
-      subst (λ r. Run b.cycle r c.args.tick c.alike-for.result) (sym is) (run_from b.cycle cells marked c.args.tick below c.alike-for.result c.alike-for.ensures),
+      subst (λ r. Decides c.is_free.result (Free b.cycle r c.args.tick)) (sym is) (subst (λ v. Decides v (Free b.cycle (spans cells) c.args.tick)) (sym c.is_free.ensures) (marked c.args.tick below)),
+      subst (λ r. Run b.cycle r c.args.tick c.alike_for.result) (sym is) (run_from b.cycle cells marked c.args.tick below c.alike_for.result c.alike_for.ensures),
     )

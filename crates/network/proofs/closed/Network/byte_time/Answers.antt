@@ -2,5 +2,5 @@ use Rattle.network.proofs.Frames.{speed_some}
 use Rattle.network.proofs.Soundness.{sound_of}
 use Rattle.network.proofs.closed.Network.byte_time.Goals as goal
 
-pub nonzero-div-self : goal.nonzero-div-self
-nonzero-div-self c = speed_some _ (sound_of c.args.self.now.wiring).ranges.speed
+pub nonzero_div-self : goal.nonzero_div-self
+nonzero_div-self c = speed_some _ (sound_of c.args.self.now.wiring).ranges.speed

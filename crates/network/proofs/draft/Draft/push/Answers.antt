@@ -5,13 +5,17 @@ use Rattle.network.specs.Views.{drafted}
 use Rattle.network.proofs.Soundness.{sound_of, sound_more}
 use Rattle.network.proofs.draft.Draft.push.Goals as goal
 
-pub invariant-of-self : goal.invariant-of-self
-invariant-of-self c =
+pub invariant_of-self : goal.invariant_of-self
+invariant_of-self c =
     let d = c.args.self.now in
     let room : d.count < length d.links = omega (arith, d.whole, c.requires.room) in
     let more = take_more_set d.links d.count (link c.args.from c.args.to) room in
     let new = sound_more (drafted d) _ _ (sound_of d) c.requires.ends c.requires.fresh c.requires.room in
-    (omega (arith, d.whole, c.requires.room), (ap length more ∙ length_push _ _ ∙ ap (λ n. n + 1) d.whole, (∣ subst (λ ls. Sound (record { numbers = d.numbers; links = ls })) (sym more) new ∣₁, tt)))
+    record {
+      fits = omega (arith, d.whole, c.requires.room);
+      whole = ap length more ∙ length_push _ _ ∙ ap (λ n. n + 1) d.whole;
+      sound = ∣ subst (λ ls. Sound (record { numbers = d.numbers; links = ls })) (sym more) new ∣₁;
+    }
 
 pub returns : goal.returns
 returns c =

@@ -14,8 +14,8 @@ pub returns : goal.returns
 returns c =
     let reader = c.args.self.now in
     let bytes = reader.sheet.now in
-    let end = c.find-byte-end.result in
-    let first = c.find-byte-end.ensures in
+    let end = c.find_byte-end.result in
+    let first = c.find_byte-end.ensures in
     let onward = λ (at : ℕ). record { number = reader.count + 1; place = reader.at; text = take (end - reader.at) (drop reader.at bytes) } ∷ lines_from (reader.count + 1 + 1) at (drop at bytes) in
     record {
       next = elim c.if-end-sheet.branch [
