@@ -3,5 +3,5 @@ use Rattle.std.proofs.lemmas.Bool.{ltb-false, leb-false, ltb-true, leb-true, eqb
 use Rattle.sheet.proofs.Spelling.{reads_on}
 use Rattle.sheet.proofs.wiring.is_ready.Goals as goal
 
-pub returns-in-82 : goal.returns-in-82
-returns-in-82 c = (λ _. reads_on c.args.line.text.now 0 (codes "READY") (omega arith, (omega arith, (omega arith, (omega arith, (omega arith, omega (arith, ltb-false, leb-false, ltb-true, leb-true, eqb-true)))))), λ _. refl)
+pub returns-in-READY : goal.returns-in-READY
+returns-in-READY c = (λ _. reads_on c.args.line.text.now 0 (codes "READY") (omega arith, (omega arith, (omega arith, (omega arith, (omega arith, omega (arith, ltb-false, leb-false, ltb-true, leb-true, eqb-true)))))), λ _. refl)
