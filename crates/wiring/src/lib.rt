@@ -12,7 +12,6 @@ use limits::{FRAME_MAX, FRAME_MIN, PATH_LINK_MAX};
 use network::{Link, Network, Numbers};
 use sheet::{Outcome, wire};
 use std::alloc::{AllocError, Global};
-use std::fmt;
 
 /// The account of a closed network, as text.
 pub fn describe(heap: Global, network: &Network) -> Result<String, AllocError>
@@ -21,10 +20,8 @@ pub fn describe(heap: Global, network: &Network) -> Result<String, AllocError>
     let mut out = String::new(heap);
     let small = network.frame_time(FRAME_MIN);
     let large = network.frame_time(FRAME_MAX);
-    match write_account(&mut out, network, small, large) {
-        Ok(()) => Ok(out),
-        Err(_) => Err(AllocError),
-    }
+    write_account(&mut out, network, small, large)?;
+    Ok(out)
 }
 
 /// The account of the network that a sheet wires, or the replies to its lines up to `READY` that are refused; or want of memory.
@@ -46,7 +43,12 @@ fn tell(heap: Global, outcome: Outcome) -> Result<String, AllocError>
 }
 
 // Appends all lines, with the times of the smallest and of the largest frame.
-fn write_account(out: &mut String, network: &Network, small: u64, large: u64) -> fmt::Result
+fn write_account(
+    out: &mut String,
+    network: &Network,
+    small: u64,
+    large: u64,
+) -> Result<(), AllocError>
     requires small { FrameTime (closed network.now) frame_min small }
     requires large { FrameTime (closed network.now) frame_max large }
     ensures { OnOk result (string_bytes out.new ≡ string_bytes out.old ++ description (closed network.now) small large) }
@@ -60,7 +62,7 @@ fn write_account(out: &mut String, network: &Network, small: u64, large: u64) ->
 }
 
 // Appends a line for each of the five numbers.
-fn write_numbers(out: &mut String, numbers: Numbers) -> fmt::Result
+fn write_numbers(out: &mut String, numbers: Numbers) -> Result<(), AllocError>
     ensures { OnOk result (string_bytes out.new ≡ string_bytes out.old ++ number_lines numbers) }
 {
     write_number(out, "NODES", numbers.nodes)?;
@@ -72,14 +74,14 @@ fn write_numbers(out: &mut String, numbers: Numbers) -> fmt::Result
 }
 
 // Appends a word and a number.
-fn write_number(out: &mut String, word: &str, number: u32) -> fmt::Result
+fn write_number(out: &mut String, word: &str, number: u32) -> Result<(), AllocError>
     ensures { OnOk result (string_bytes out.new ≡ string_bytes out.old ++ number_line word.now number) }
 {
     writeln!(out, "{word} {number}")
 }
 
 // Appends a line for each link, in order of its number.
-fn write_links(out: &mut String, network: &Network) -> fmt::Result
+fn write_links(out: &mut String, network: &Network) -> Result<(), AllocError>
     requires { LinkCount (length (closed network.now).links) }
     ensures { OnOk result (string_bytes out.new ≡ string_bytes out.old ++ link_lines 1 (closed network.now).links) }
 {
@@ -92,21 +94,26 @@ fn write_links(out: &mut String, network: &Network) -> fmt::Result
 }
 
 // Appends a link of a number, and its ends.
-fn write_link(out: &mut String, number: u32, link: Link) -> fmt::Result
+fn write_link(out: &mut String, number: u32, link: Link) -> Result<(), AllocError>
     ensures { OnOk result (string_bytes out.new ≡ string_bytes out.old ++ link_line number link) }
 {
     writeln!(out, "LINK {number} FROM {} TO {}", link.from, link.to)
 }
 
 // Appends the time of a frame of so many bytes.
-fn write_frame(out: &mut String, size: u32, ticks: u64) -> fmt::Result
+fn write_frame(out: &mut String, size: u32, ticks: u64) -> Result<(), AllocError>
     ensures { OnOk result (string_bytes out.new ≡ string_bytes out.old ++ frame_line size ticks) }
 {
     writeln!(out, "FRAME {size} TICKS {ticks}")
 }
 
 // Appends the latencies of paths of 1 link to as many as a path may have.
-fn write_latencies(out: &mut String, network: &Network, small: u64, large: u64) -> fmt::Result
+fn write_latencies(
+    out: &mut String,
+    network: &Network,
+    small: u64,
+    large: u64,
+) -> Result<(), AllocError>
     requires small { small < 2 ^ 32 }
     requires large { large < 2 ^ 32 }
     ensures { OnOk result (string_bytes out.new ≡ string_bytes out.old ++ latency_lines (closed network.now) small large 1 path_link_max) }
