@@ -1,6 +1,6 @@
 -- Where a byte first stands, there its first piece ends. Assumes nothing.
 use Rattle.std.proofs.Common.{◌≡◌, ℕ, zero, suc, ◌+◌, ◌-◌, ◌<◌, ◌≤◌, eqb, List, [], ◌∷◌, ◌++◌, length, take, drop, sym, refl, ap, ◌∙◌, append-nil, arith, length-drop, take-append-drop, length-take-le, get_or-drop, take_all, get_or-take, drop-drop}
-use Rattle.std.specs.List.{AllByRecursion as All}
+use Rattle.std.specs.List.{AllByRecursion}
 use Rattle.std.proofs.lemmas.List.{drop_more}
 use Rattle.std.proofs.lemmas.Bool.{eqb-true, eqb-false, eq-eqb, ne_eqb, cond-true, cond-false, cond_both}
 use Rattle.sheet.specs.Pieces.{pieces, Lacks, AllLack, led, rejoined, PiecesRejoin, FirstFrom}
@@ -35,7 +35,7 @@ module _ (b : ℕ) where
   only_piece xs h = ap (pieces b) (sym (append-nil xs)) ∙ in_front xs [] h ∙ ap (λ l. record { first = l; rest = [] }) (append-nil xs)
 
   -- the pieces of joined pieces that lack b
-  parted : (t : List ℕ) (ts : List (List ℕ)) → Lacks b t → All (Lacks b) ts → pieces b (t ++ led b ts) ≡ record { first = t; rest = ts }
+  parted : (t : List ℕ) (ts : List (List ℕ)) → Lacks b t → AllByRecursion (Lacks b) ts → pieces b (t ++ led b ts) ≡ record { first = t; rest = ts }
   parted t [] h hs = ap (pieces b) (append-nil t) ∙ only_piece t h
   parted t (u ∷ us) h hs = first_piece t (u ++ led b us) h ∙ ap (λ p. record { first = t; rest = p.first ∷ p.rest }) (parted u us hs.0 hs.1)
 

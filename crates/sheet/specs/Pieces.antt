@@ -1,6 +1,6 @@
 -- The pieces that a byte parts a text into. Assumes nothing.
 use Rattle.std.specs.Prelude.{◌≡◌, ℕ, ◌<◌, ◌≤◌, cond, List, [], ◌∷◌, ◌++◌, length, ◌==◌, ◌≢◌, slice_index}
-use Rattle.std.specs.List.{AllByRecursion as All}
+use Rattle.std.specs.List.{AllByRecursion}
 
 -- the pieces of a text: the first, and those after it
 pub record Pieces : Type 0 where
@@ -18,7 +18,7 @@ Lacks b xs = (k : ℕ) → k < length xs → slice_index xs k ≢ b
 
 -- no byte of any piece is b
 abbrev pub AllLack : ℕ → Pieces → Type 0
-AllLack b p = Lacks b p.first × All (Lacks b) p.rest
+AllLack b p = Lacks b p.first × AllByRecursion (Lacks b) p.rest
 
 -- the texts one after the other, with one b before each
 abbrev pub led : ℕ → List (List ℕ) → List ℕ
