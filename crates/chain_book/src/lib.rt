@@ -9,7 +9,6 @@ mod keep;
 mod make;
 mod scan;
 
-use book::Book;
 pub use booking::Booking;
 pub use chain_book::ChainBook;
 

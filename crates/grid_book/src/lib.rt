@@ -9,7 +9,6 @@ mod keep;
 mod make;
 mod row;
 
-use book::Book;
 pub use cell::Cell;
 pub use grid::GridBook;
 

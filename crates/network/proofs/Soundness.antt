@@ -1,5 +1,5 @@
 -- Every draft stands for a sound network, and each call keeps it so. Assumes nothing.
-use Rattle.std.proofs.Common.{◌≡◌, ℕ, ◌+◌, ◌-◌, ◌<◌, ◌≤◌, Bool, [], ◌∷◌, ◌++◌, length, get_or, set, sym, ap, ◌∙◌, subst, ⊎_elim, arith}
+use Rattle.std.proofs.Common.{◌≡◌, ℕ, ◌+◌, ◌<◌, ◌≤◌, [], ◌∷◌, ◌++◌, length, sym, ◌∙◌, subst, ⊎_elim, arith}
 use mathlib.Core.Bool.{Bool-set}
 use mathlib.Core.HLevel.{⊥_prop}
 use mathlib.Core.Logic.{∥∥₁_elim}
@@ -8,7 +8,6 @@ use Rattle.limits.specs.Ranges.{Within, link_max}
 use Rattle.std.proofs.lemmas.List.{length_push, get_or_push, get_or_append_left}
 use Rattle.std.proofs.lemmas.Bool.{cases_lt}
 use Rattle.network.specs.Net.{Net, Sound, InRange, Ends, Linked, link, nth_link}
-use Rattle.network.specs.declared.numbers.Link.{Link}
 use Rattle.network.specs.declared.numbers.Numbers.{Numbers}
 use Rattle.network.specs.declared.draft.Draft.{Draft}
 use Rattle.network.proofs.Found.{found_at}

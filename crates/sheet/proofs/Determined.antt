@@ -5,7 +5,7 @@ use Rattle.limits.proofs.Once.{first_once}
 use Rattle.network.proofs.Determined.{sets_once, adds_once}
 use Rattle.sheet.specs.Commands.{line_rules, Begins, Numerals, Says}
 use Rattle.sheet.specs.Lines.{SheetLine, SheetWord, arguments}
-use Rattle.sheet.specs.Numerals.{Numeral, value_of}
+use Rattle.sheet.specs.Numerals.{value_of}
 use Rattle.sheet.specs.Readings.{command_of, keyword_of}
 use Rattle.sheet.specs.Runs.{State, outcome, Executed, reply_to, Answers, faulty, executed, Run}
 use Rattle.sheet.specs.declared.command.Command.{Command}
