@@ -11,6 +11,8 @@ ghost use Rattle.book.specs.Meanings.{Formed, Meaning, total};
 ghost use Rattle.book.specs.Spans.{Fits, span};
 ghost use Rattle.book.specs.Empty.{empty_formed};
 
+use limits::Quantity;
+
 mod refusal;
 
 pub use refusal::{BookRefusal, Holding};
@@ -81,7 +83,7 @@ pub fn tick_refusal(cycle: u32, links: u32, link: u32, tick: u32) -> Option<Book
 pub fn is_booking(cycle: u32, start: u32, ticks: u32, flow: u32) -> bool
     ensures { Decides result (Fits cycle (span start ticks flow)) }
 {
-    start < cycle && 1 <= ticks && ticks <= cycle && limits::is_flow(flow)
+    start < cycle && 1 <= ticks && ticks <= cycle && Quantity::Flow.has(flow)
 }
 
 // The same, from the run question.
@@ -95,6 +97,7 @@ fn stretch_at<B: Book>(book: &B, link: u32, tick: u32) -> Result<(bool, u32), Bo
 #[cfg(test)]
 mod tests {
     use crate::{Book, BookRefusal, Holding, free_for};
+    use limits::Quantity;
 
     #[derive(Drop)]
     struct Roomless {
@@ -161,7 +164,7 @@ mod tests {
             match self.refusal(link, start) {
                 Some(refusal) => Err(refusal),
                 None => {
-                    if ticks == 0 || ticks > self.cycle || !limits::is_flow(flow) {
+                    if ticks == 0 || ticks > self.cycle || !Quantity::Flow.has(flow) {
                         return Err(BookRefusal::OutOfRange);
                     }
                     Err(BookRefusal::Full)

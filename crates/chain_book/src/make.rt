@@ -9,7 +9,7 @@ ghost use Rattle.limits.specs.Ranges.{room_max};
 use crate::booking::Booking;
 use crate::chain_book::ChainBook;
 use chains::{Slot, board_over};
-use limits::{ROOM_MAX, is_cycle, is_link_count};
+use limits::{Quantity, ROOM_MAX};
 
 // What a book is made for, and how many records it takes.
 #[derive(Clone, Copy)]
@@ -25,7 +25,7 @@ fn granted(records: usize, cycle: u32, links: u32) -> Size
     ensures ranged { InRange result.cycle result.links }
     ensures limited { (result.records ≤ records) × (result.records - 1 ≤ room_max) }
 {
-    if !is_cycle(cycle) || !is_link_count(links) {
+    if !Quantity::Cycle.has(cycle) || !Quantity::LinkCount.has(links) {
         return Size {
             cycle: 1,
             links: 0,

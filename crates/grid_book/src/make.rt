@@ -9,7 +9,7 @@ ghost use Rattle.grid_book.specs.declared.cell.Cell.TheVariants.{Free};
 
 use crate::cell::{Cell, Grid};
 use crate::grid::GridBook;
-use limits::{ROOM_MAX, is_cycle, is_link_count};
+use limits::{Quantity, ROOM_MAX};
 
 // What a book is made for.
 #[derive(Clone, Copy)]
@@ -24,7 +24,7 @@ fn granted(cells: usize, room: u32, cycle: u32, links: u32) -> Size
     ensures made { Made cells room cycle links (empty result.cycle result.links result.room) }
     ensures sized { Sized cells result.cycle result.links result.room }
 {
-    if !is_cycle(cycle) || !is_link_count(links) {
+    if !Quantity::Cycle.has(cycle) || !Quantity::LinkCount.has(links) {
         return Size {
             cycle: 1,
             links: 0,

@@ -1,8 +1,8 @@
-//! The ranges that several crates share, each stated once: a constant, a word of the specifications and a test.
+//! The ranges that several crates share, each stated once: constants, a word of the specifications and a test.
 
 #![tactic(auto)]
 
-ghost use Rattle.limits.specs.Ranges.{Cycle, Flow, LinkCount, Tick, FrameSize, PathLinks};
+ghost use Rattle.limits.specs.Quantities.{Ranged};
 ghost use Rattle.std.specs.Prelude.{Decides};
 
 /// The longest cycle, in ticks; the shortest has 1.
@@ -29,46 +29,38 @@ pub const FRAME_MAX: u32 = 1_522;
 /// The most links of a path; the fewest is 1.
 pub const PATH_LINK_MAX: u32 = 6;
 
-/// Whether a cycle of so many ticks is in range.
-pub fn is_cycle(ticks: u32) -> bool
-    ensures { Decides result (Cycle ticks) }
-{
-    1 <= ticks && ticks <= CYCLE_MAX
+/// What the rules give a range.
+#[derive(Clone, Copy, PartialEq, Eq, Debug)]
+pub enum Quantity {
+    /// The length of a cycle, in ticks.
+    Cycle,
+    /// The length of a tick, in nanoseconds.
+    Tick,
+    /// How many links a network or a book has.
+    LinkCount,
+    /// The number of a flow.
+    Flow,
+    /// The size of a frame, in bytes.
+    FrameSize,
+    /// How many links a path has.
+    PathLinks,
 }
 
-/// Whether a tick of so many nanoseconds is in range.
-pub fn is_tick(nanoseconds: u32) -> bool
-    ensures { Decides result (Tick nanoseconds) }
-{
-    1 <= nanoseconds && nanoseconds <= TICK_MAX
-}
-
-/// Whether so many links are not too many.
-pub fn is_link_count(links: u32) -> bool
-    ensures { Decides result (LinkCount links) }
-{
-    links <= LINK_MAX
-}
-
-/// Whether a number is a flow number.
-pub fn is_flow(number: u32) -> bool
-    ensures { Decides result (Flow number) }
-{
-    1 <= number && number <= FLOW_MAX
-}
-
-/// Whether a frame of so many bytes is in range.
-pub fn is_frame_size(bytes: u32) -> bool
-    ensures { Decides result (FrameSize bytes) }
-{
-    FRAME_MIN <= bytes && bytes <= FRAME_MAX
-}
-
-/// Whether a path may have so many links.
-pub fn is_path_links(links: u32) -> bool
-    ensures { Decides result (PathLinks links) }
-{
-    1 <= links && links <= PATH_LINK_MAX
+impl Quantity {
+    /// Whether a number is in the range.
+    pub fn has(self, number: u32) -> bool
+        ensures { Decides result (Ranged self number) }
+    {
+        let (least, greatest) = match self {
+            Quantity::Cycle => (1, CYCLE_MAX),
+            Quantity::Tick => (1, TICK_MAX),
+            Quantity::LinkCount => (0, LINK_MAX),
+            Quantity::Flow => (1, FLOW_MAX),
+            Quantity::FrameSize => (FRAME_MIN, FRAME_MAX),
+            Quantity::PathLinks => (1, PATH_LINK_MAX),
+        };
+        (least..=greatest).contains(&number)
+    }
 }
 
 #[cfg(test)]
@@ -79,34 +71,50 @@ mod tests {
     #[test]
     fn bounds(rt: HostRuntime) {
         assert!(rt;
-            !is_cycle(0) && is_cycle(1) && is_cycle(4_096) && !is_cycle(4_097),
+            !Quantity::Cycle.has(0)
+                && Quantity::Cycle.has(1)
+                && Quantity::Cycle.has(4_096)
+                && !Quantity::Cycle.has(4_097),
             "cycle"
         );
         assert!(rt;
-            !is_tick(0) && is_tick(1) && is_tick(1_000_000) && !is_tick(1_000_001),
+            !Quantity::Tick.has(0)
+                && Quantity::Tick.has(1)
+                && Quantity::Tick.has(1_000_000)
+                && !Quantity::Tick.has(1_000_001),
             "tick"
         );
         assert!(rt;
-            is_link_count(0) && is_link_count(40) && !is_link_count(41),
+            Quantity::LinkCount.has(0)
+                && Quantity::LinkCount.has(40)
+                && !Quantity::LinkCount.has(41),
             "links"
         );
         assert!(rt;
-            !is_flow(0) && is_flow(1) && is_flow(48) && !is_flow(49),
+            !Quantity::Flow.has(0)
+                && Quantity::Flow.has(1)
+                && Quantity::Flow.has(48)
+                && !Quantity::Flow.has(49),
             "flow"
         );
         assert!(rt;
-            !is_frame_size(63)
-                && is_frame_size(64)
-                && is_frame_size(1_522)
-                && !is_frame_size(1_523),
+            !Quantity::FrameSize.has(63)
+                && Quantity::FrameSize.has(64)
+                && Quantity::FrameSize.has(1_522)
+                && !Quantity::FrameSize.has(1_523),
             "frame"
         );
         assert!(rt;
-            !is_path_links(0) && is_path_links(1) && is_path_links(6) && !is_path_links(7),
+            !Quantity::PathLinks.has(0)
+                && Quantity::PathLinks.has(1)
+                && Quantity::PathLinks.has(6)
+                && !Quantity::PathLinks.has(7),
             "path"
         );
         assert!(rt;
-            !is_cycle(u32::MAX) && !is_tick(u32::MAX) && !is_link_count(u32::MAX),
+            !Quantity::Cycle.has(u32::MAX)
+                && !Quantity::Tick.has(u32::MAX)
+                && !Quantity::LinkCount.has(u32::MAX),
             "greatest number"
         );
     }
