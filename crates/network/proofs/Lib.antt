@@ -1,4 +1,3 @@
 pub mod Soundness
-pub mod Frames
 pub mod Found
 pub mod Determined

@@ -1,12 +1,11 @@
 -- The network that a value of the code stands for. Assumes nothing.
-use Rattle.std.specs.Prelude.{take}
 use Rattle.network.specs.Net.{Net}
 use Rattle.network.specs.declared.draft.Draft.{Draft}
 use Rattle.network.specs.declared.closed.Network.{Network}
 
--- what a draft has so far; places of its array that no link was put in are not seen
+-- what a draft has so far
 abbrev pub drafted : Draft → Net
-drafted d = record { numbers = d.numbers; links = take d.count d.links }
+drafted d = record { numbers = d.numbers; links = d.links.items }
 
 -- what a closed network has
 abbrev pub closed : Network → Net

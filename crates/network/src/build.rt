@@ -3,15 +3,14 @@
 ghost use Rattle.std.specs.Prelude.{◌≡◌, ◌<◌, [], ◌∷◌, ◌++◌, length};
 ghost use Rattle.limits.specs.Ranges.{link_max};
 ghost use Rattle.network.specs.Calls.{first_net, SetsNumbers, AddsLink};
-ghost use Rattle.network.specs.Net.{Ends, InRange, Linked, link};
+ghost use Rattle.network.specs.Net.{Ends, InRange, Linked};
 ghost use Rattle.network.specs.Views.{drafted, closed};
 
 use crate::closed::Network;
-use crate::draft::{Draft, ROOM};
+use crate::draft::Draft;
 use crate::numbers::{Link, Numbers};
 use crate::refusal::NetworkRefusal;
-use crate::search::in_range;
-use limits::LINK_MAX;
+use arrayvec::ArrayVec;
 
 impl Draft {
     /// A draft of 2 nodes, 100 Mbit/s, ticks of 1,000 ns, forwarding time 1 and cycle 1, with no link.
@@ -31,10 +30,10 @@ impl Draft {
     pub fn set_numbers(&mut self, numbers: Numbers) -> Result<(), NetworkRefusal>
         ensures sets { SetsNumbers (drafted self.old) numbers result (drafted self.new) }
     {
-        if self.link_count() > 0 {
+        if !self.links.is_empty() {
             return Err(NetworkRefusal::NumbersAfterLink);
         }
-        if !in_range(numbers) {
+        if !numbers.are_in_range() {
             return Err(NetworkRefusal::NumberOutOfRange);
         }
         *self = Draft::bare(numbers);
@@ -45,19 +44,17 @@ impl Draft {
     pub fn add_link(&mut self, from: u32, to: u32) -> Result<u32, NetworkRefusal>
         ensures adds { AddsLink (drafted self.old) from to result (drafted self.new) }
     {
-        let nodes = self.numbers.nodes;
-        if from == 0 || from > nodes || to == 0 || to > nodes || from == to {
+        if !self.numbers.has_node(from) || !self.numbers.has_node(to) || from == to {
             return Err(NetworkRefusal::LinkEnds);
         }
         if self.number_between(from, to).is_some() {
             return Err(NetworkRefusal::LinkExists);
         }
-        let links = self.link_count();
-        if links >= LINK_MAX {
+        if self.links.is_full() {
             return Err(NetworkRefusal::TooManyLinks);
         }
-        self.push(from, to);
-        Ok(links + 1)
+        self.push(Link { from, to });
+        Ok(self.link_count())
     }
 
     /// Closes the draft, which is used up; this never refuses.
@@ -74,20 +71,17 @@ impl Draft {
     {
         Draft {
             numbers,
-            links: [Link { from: 0, to: 0 }; ROOM],
-            count: 0,
+            links: ArrayVec::new(),
         }
     }
 
     // One link more, between two different nodes that none joins yet.
-    fn push(&mut self, from: u32, to: u32)
-        requires ends { Ends (drafted self.old).numbers from to }
-        requires fresh { Linked (drafted self.old) from to → ⊥ }
+    fn push(&mut self, link: Link)
+        requires ends { Ends (drafted self.old).numbers link.from link.to }
+        requires fresh { Linked (drafted self.old) link.from link.to → ⊥ }
         requires room { length (drafted self.old).links < link_max }
-        ensures { drafted self.new ≡ record { numbers = (drafted self.old).numbers; links = (drafted self.old).links ++ (link from to ∷ []) } }
+        ensures { drafted self.new ≡ record { numbers = (drafted self.old).numbers; links = (drafted self.old).links ++ (link ∷ []) } }
     {
-        let count = self.count;
-        self.links[count] = Link { from, to };
-        self.count = count + 1;
+        self.links.push(link);
     }
 }

@@ -1,10 +1,9 @@
 //! What a draft is.
 
-ghost use Rattle.std.specs.Prelude.{◌≡◌, ◌≤◌, length, take};
-ghost use Rattle.limits.specs.Ranges.{link_max};
 ghost use Rattle.network.specs.Net.{Net, Sound};
 
 use crate::numbers::{Link, Numbers};
+use arrayvec::ArrayVec;
 use limits::LINK_MAX;
 
 // How many links a draft has room for.
@@ -14,9 +13,6 @@ pub(crate) const ROOM: usize = LINK_MAX as usize;
 #[derive(Drop)]
 pub struct Draft {
     pub(crate) numbers: Numbers,
-    pub(crate) links: [Link; ROOM],
-    pub(crate) count: usize,
-    ghost fits: { count ≤ link_max },
-    ghost whole: { length (take count links) ≡ count },
-    ghost sound: { ∥ Sound (record { numbers = numbers; links = take count links }) ∥₁ },
+    pub(crate) links: ArrayVec<Link, ROOM>,
+    ghost sound: { ∥ Sound (record { numbers = numbers; links = links.items }) ∥₁ },
 }

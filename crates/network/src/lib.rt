@@ -24,18 +24,15 @@ mod tests {
 
     // The number of the refusal, or 0.
     fn refused(r: Result<(), NetworkRefusal>) -> u32 {
-        match r {
-            Ok(()) => 0,
-            Err(refusal) => refusal.number(),
-        }
+        r.err().map_or(0, NetworkRefusal::number)
     }
 
     // The number of the refusal, or a thousand and the number of the link.
     fn linked(r: Result<u32, NetworkRefusal>) -> u32 {
-        match r {
-            Ok(number) => number.saturating_add(1_000),
-            Err(refusal) => refusal.number(),
-        }
+        r.map_or_else(
+            NetworkRefusal::number,
+            |number| number.saturating_add(1_000),
+        )
     }
 
     // Each bound of each number, and what lies just outside.
@@ -92,6 +89,7 @@ mod tests {
         assert_eq!(rt; linked(draft.add_link(2, 4)), 1_003);
         let network = draft.close();
         assert_eq!(rt; network.links(), 3);
+        assert_eq!(rt; network.wired().len(), 3);
         assert!(rt; network.link(3) == Some(Link { from: 2, to: 4 }));
         assert!(rt; network.link(0) == None && network.link(4) == None);
         assert!(rt; network.link_between(2, 1) == Some(2) && network.link_between(4, 2) == None);

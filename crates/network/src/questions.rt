@@ -1,10 +1,9 @@
 //! What a closed network answers.
 
-ghost use Rattle.std.specs.Prelude.{◌≡◌, ◌^◌, ◌<◌, ◌≤◌, length};
-ghost use Rattle.limits.specs.Ranges.{Tick};
+ghost use Rattle.std.specs.Prelude.{◌≡◌, length};
 ghost use Rattle.network.specs.Calls.{TellsEnds, TellsNumber};
 ghost use Rattle.network.specs.Net.{Sound};
-ghost use Rattle.network.specs.Times.{Fewest, FrameTime, byte_time};
+ghost use Rattle.network.specs.Times.{FrameTime};
 ghost use Rattle.network.specs.Views.{closed};
 
 use crate::closed::Network;
@@ -30,11 +29,15 @@ impl Network {
     pub fn link(&self, number: u32) -> Option<Link>
         ensures { TellsEnds (closed self.now) number result }
     {
-        let place = number as usize;
-        if place == 0 || place > self.wiring.count {
-            return None;
-        }
-        Some(self.wiring.links[place - 1])
+        let place = number.checked_sub(1)?;
+        self.wiring.links.get(place as usize).copied()
+    }
+
+    /// The links, in order of their numbers.
+    pub fn wired(&self) -> &[Link]
+        ensures { result.now ≡ (closed self.now).links }
+    {
+        self.wiring.links.as_slice()
     }
 
     /// The number of the link between two nodes, if there is one.
@@ -48,32 +51,9 @@ impl Network {
     pub fn frame_time(&self, size: u32) -> u64
         ensures { FrameTime (closed self.now) size result }
     {
-        let span = (u64::from(size) + 20) * self.byte_time();
-        fewest_ticks(span, self.tick())
+        let numbers = self.numbers();
+        let byte_time = u64::from(8000 / numbers.speed);
+        let span = (u64::from(size) + 20) * byte_time;
+        span.div_ceil(u64::from(numbers.tick))
     }
-
-    // The time of a byte in nanoseconds.
-    fn byte_time(&self) -> u64
-        ensures value { result ≡ byte_time (closed self.now).numbers.speed }
-        ensures bound { result ≤ 8000 }
-    {
-        u64::from(8000 / self.wiring.numbers.speed)
-    }
-
-    // The length of a tick in nanoseconds.
-    fn tick(&self) -> u64
-        ensures value { result ≡ (closed self.now).numbers.tick }
-        ensures bound { Tick result }
-    {
-        u64::from(self.wiring.numbers.tick)
-    }
-}
-
-// The fewest ticks that last at least as long as a span.
-fn fewest_ticks(span: u64, tick: u64) -> u64
-    requires tick { Tick tick }
-    requires span { span < 2 ^ 60 }
-    ensures { Fewest span tick result }
-{
-    (span + (tick - 1)) / tick
 }

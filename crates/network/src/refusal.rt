@@ -7,15 +7,15 @@ ghost use Rattle.network.specs.Refusals.{number_of};
 #[derive(Clone, Copy, PartialEq, Eq, Debug)]
 pub enum NetworkRefusal {
     /// 11: an end of the link is no node, or its ends are equal.
-    LinkEnds,
+    LinkEnds = 11,
     /// 12: there is a link between these nodes already.
-    LinkExists,
+    LinkExists = 12,
     /// 13: the draft has 40 links already.
-    TooManyLinks,
+    TooManyLinks = 13,
     /// 14: a number is out of its range.
-    NumberOutOfRange,
+    NumberOutOfRange = 14,
     /// 16: numbers are set only while there is no link.
-    NumbersAfterLink,
+    NumbersAfterLink = 16,
 }
 
 impl NetworkRefusal {
@@ -23,12 +23,6 @@ impl NetworkRefusal {
     pub fn number(self) -> u32
         ensures { result ≡ number_of self }
     {
-        match self {
-            NetworkRefusal::LinkEnds => 11,
-            NetworkRefusal::LinkExists => 12,
-            NetworkRefusal::TooManyLinks => 13,
-            NetworkRefusal::NumberOutOfRange => 14,
-            NetworkRefusal::NumbersAfterLink => 16,
-        }
+        self as u32
     }
 }
