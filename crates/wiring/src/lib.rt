@@ -20,7 +20,11 @@ pub fn describe(heap: Global, network: &Network) -> Result<String, AllocError>
     let mut out = String::new(heap);
     let small = network.frame_time(FRAME_MIN);
     let large = network.frame_time(FRAME_MAX);
-    write_account(&mut out, network, small, large)?;
+    write_numbers(&mut out, network.numbers())?;
+    write_links(&mut out, network.wired())?;
+    write_frame(&mut out, FRAME_MIN, small)?;
+    write_frame(&mut out, FRAME_MAX, large)?;
+    write_latencies(&mut out, network, small, large)?;
     Ok(out)
 }
 
@@ -40,25 +44,6 @@ fn tell(heap: Global, outcome: Outcome) -> Result<String, AllocError>
         Outcome::Network(network) => describe(heap, &network),
         Outcome::Refused(replies) => Ok(replies),
     }
-}
-
-// Appends all lines, with the times of the smallest and of the largest frame.
-fn write_account(
-    out: &mut String,
-    network: &Network,
-    small: u64,
-    large: u64,
-) -> Result<(), AllocError>
-    requires small { FrameTime (closed network.now) frame_min small }
-    requires large { FrameTime (closed network.now) frame_max large }
-    ensures { OnOk result (string_bytes out.new ≡ string_bytes out.old ++ description (closed network.now) small large) }
-{
-    write_numbers(out, network.numbers())?;
-    write_links(out, network)?;
-    write_frame(out, FRAME_MIN, small)?;
-    write_frame(out, FRAME_MAX, large)?;
-    write_latencies(out, network, small, large)?;
-    Ok(())
 }
 
 // Appends a line for each of the five numbers.
@@ -81,20 +66,17 @@ fn write_number(out: &mut String, word: &str, number: u32) -> Result<(), AllocEr
 }
 
 // Appends a line for each link, in order of its number.
-fn write_links(out: &mut String, network: &Network) -> Result<(), AllocError>
-    requires { LinkCount (length (closed network.now).links) }
-    ensures { OnOk result (string_bytes out.new ≡ string_bytes out.old ++ link_lines 1 (closed network.now).links) }
+fn write_links(out: &mut String, links: &[Link]) -> Result<(), AllocError>
+    ensures { OnOk result (string_bytes out.new ≡ string_bytes out.old ++ link_lines 1 links.now) }
 {
-    let mut number = 1;
-    while let Some(link) = network.link(number) {
-        write_link(out, number, link)?;
-        number += 1;
+    for (place, link) in links.iter().enumerate() {
+        write_link(out, place + 1, *link)?;
     }
     Ok(())
 }
 
 // Appends a link of a number, and its ends.
-fn write_link(out: &mut String, number: u32, link: Link) -> Result<(), AllocError>
+fn write_link(out: &mut String, number: usize, link: Link) -> Result<(), AllocError>
     ensures { OnOk result (string_bytes out.new ≡ string_bytes out.old ++ link_line number link) }
 {
     writeln!(out, "LINK {number} FROM {} TO {}", link.from, link.to)
@@ -118,7 +100,7 @@ fn write_latencies(
     requires large { large < 2 ^ 32 }
     ensures { OnOk result (string_bytes out.new ≡ string_bytes out.old ++ latency_lines (closed network.now) small large 1 path_link_max) }
 {
-    for links in 1..PATH_LINK_MAX + 1 {
+    for links in 1..=PATH_LINK_MAX {
         let least = path_ticks(network, small, links);
         let most = path_ticks(network, large, links);
         writeln!(out, "LINKS {links} LATENCY {least} {most}")?;
