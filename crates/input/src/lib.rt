@@ -31,9 +31,7 @@ pub fn read_sheet(rt: &HostRuntime) -> anyhow::Result<Vec<u8>>
     ensures { IfOk result (λ bytes. vec_len bytes ≤ sheet_max + 1) }
 {
     let heap = rt.alloc();
-    let mut arguments = env::args(rt)?;
-    let _program = arguments.next();
-    let bytes = match arguments.next() {
+    let bytes = match env::args(rt)?.nth(1) {
         Some(path) => read_some(heap, File::open(rt, path.as_str())?)?,
         None => read_some(heap, rt.stdin())?,
     };
