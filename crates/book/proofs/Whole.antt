@@ -5,7 +5,7 @@ use Rattle.limits.proofs.Once.{first_once, none_hold, within_or_not}
 use Rattle.limits.specs.Refusals.{First}
 use Rattle.std.proofs.lemmas.Bool.{cases_lt}
 use Rattle.std.proofs.lemmas.Bool.Decides.{same_from_decides}
-use Rattle.book.specs.Calls.{tick_rules, book_rules, release_rules, TellsRun, Holds, TellsHolder, Books, Releases}
+use Rattle.book.specs.Calls.{tick_rules, book_rules, release_rules, TellsRun, TellsStretch, Holds, TellsHolder, Books, Releases}
 use Rattle.book.specs.Laws.{StaysFormed, AnswersAlike, BookLaws}
 use Rattle.book.specs.Meanings.{Meaning, row, total, AllOrderly, Formed, with_row}
 use Rattle.book.specs.Spans.{Span, Fits, Orderly, insert, without}
@@ -70,6 +70,11 @@ stays_formed = (
   λ m link s after f b. subst (λ a. Formed a × (total a.rows ≡ total m.rows + 1)) (sym b.1) (books_formed m link s f b.0),
   λ m link tick n after f b. subst (λ a. Formed a × (total a.rows + 1 ≡ total m.rows)) (sym b.2) (releases_formed m link tick f b.0),
 )
+
+-- who tells the run tells a stretch
+pub tells_stretch : (m : Meaning) (link tick : ℕ) (p : Result (Bool × ℕ) BookRefusal) → TellsRun m link tick p → TellsStretch m link tick p
+tells_stretch m link tick (Ok p) t = (t.0, t.1, t.2.stretch)
+tells_stretch m link tick (Err e) t = t
 
 run_once : (m : Meaning) (link tick : ℕ) (p q : Result (Bool × ℕ) BookRefusal) → TellsRun m link tick p → TellsRun m link tick q → p ≡ q
 run_once m link tick (Ok p) (Ok q) a b = λ i. Ok (same_from_decides p.0 q.0 a.1 b.1 i, run_is_one m.cycle (row m link) tick p.1 q.1 a.2 b.2 i)

@@ -1,5 +1,5 @@
 -- What each call of a book answers and leaves. Assumes nothing.
-use Rattle.std.specs.Prelude.{◌≡◌, ℕ, ◌<◌, ◌≤◌, Bool, List, [], ◌∷◌, Some, None, Ok, Err, Decides, Option, Result}
+use Rattle.std.specs.Prelude.{◌≡◌, ℕ, ◌<◌, ◌≤◌, Bool, List, [], ◌∷◌, ◌++◌, Some, None, Ok, Err, Decides, Option, Result}
 use Rattle.limits.specs.Ranges.{Within}
 use Rattle.limits.specs.Refusals.{Rule, First}
 use Rattle.book.specs.Meanings.{Meaning, row, total, with_row}
@@ -43,14 +43,20 @@ TellsHolder m link tick (Err e) = First (tick_rules m link tick) (Some e)
 abbrev pub Clashes : ℕ → List Span → Span → Type 0
 Clashes H r s = (t : ℕ) × (t < H) × Covers H s t × (Free H r t → ⊥)
 
+-- when a booking is refused for its own numbers, in order
+abbrev pub span_rules : Meaning → ℕ → Span → List (Rule BookRefusal)
+span_rules m link s =
+    link_rule m link
+    ∷ record { when = Fits m.cycle s → ⊥; give = OutOfRange }
+    ∷ []
+
 -- when a booking is refused, in order
 abbrev pub book_rules : Meaning → ℕ → Span → List (Rule BookRefusal)
 book_rules m link s =
-    link_rule m link
-    ∷ record { when = Fits m.cycle s → ⊥; give = OutOfRange }
-    ∷ record { when = Clashes m.cycle (row m link) s; give = Covered }
+    span_rules m link s
+    ++ (record { when = Clashes m.cycle (row m link) s; give = Covered }
     ∷ record { when = m.room ≤ total m.rows; give = Full }
-    ∷ []
+    ∷ [])
 
 -- booking adds one booking
 abbrev pub Books : Meaning → ℕ → Span → Result (Unit {0}) BookRefusal → Meaning → Type 0

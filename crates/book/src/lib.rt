@@ -13,8 +13,10 @@ ghost use Rattle.book.specs.Empty.{empty_formed};
 
 use limits::Quantity;
 
+mod extent;
 mod refusal;
 
+pub use extent::Extent;
 pub use refusal::{BookRefusal, Holding};
 
 /// A book of bookings. Whoever supplies one shows these contracts; whoever uses one knows no more than them.
@@ -39,6 +41,7 @@ pub trait Book {
         ensures { result ≡ total (meaning self.now).rows };
 
     /// Whether a tick of a link is free, and how many ticks from it on, going round, are alike, at most the cycle.
+    // A pair, since both parts always count: free or not, the tick is followed by so many that are alike.
     fn run(&self, link: u32, tick: u32) -> Result<(bool, u32), BookRefusal>
         ensures { TellsRun (meaning self.now) link tick result };
 
@@ -58,11 +61,12 @@ pub trait Book {
 }
 
 /// Whether a tick of a link is free, and a number of ticks from it on, going round, that are alike; it is not said to be the greatest.
+#[tactic(auto, using(crate::proofs::Whole::tells_stretch, crate::proofs::Whole::book_laws))]
 pub fn free_for<B: Book>(book: &B, link: u32, tick: u32) -> Result<(bool, u32), BookRefusal>
     ensures stretch { TellsStretch (B.Book.meaning book.now) link tick result }
     ensures laws { BookLaws }
 {
-    stretch_at(book, link, tick)
+    book.run(link, tick)
 }
 
 /// Why a question about a tick of a link is refused, in a book of such a cycle and so many links: for whoever
@@ -86,72 +90,46 @@ pub fn is_booking(cycle: u32, start: u32, ticks: u32, flow: u32) -> bool
     start < cycle && 1 <= ticks && ticks <= cycle && Quantity::Flow.has(flow)
 }
 
-// The same, from the run question.
-fn stretch_at<B: Book>(book: &B, link: u32, tick: u32) -> Result<(bool, u32), BookRefusal>
-    ensures { TellsStretch (B.Book.meaning book.now) link tick result }
-{
-    book.run(link, tick)
-}
-
 // A book that has no room: the contracts can be met, and this is what they refuse.
 #[cfg(test)]
 mod tests {
-    use crate::{Book, BookRefusal, Holding, free_for};
-    use limits::Quantity;
+    use crate::{Book, BookRefusal, Extent, Holding, free_for};
 
     #[derive(Drop)]
     struct Roomless {
-        cycle: u32,
-        links: u32,
-    }
-
-    impl Roomless {
-        fn refusal(&self, link: u32, tick: u32) -> Option<BookRefusal>
-            ensures { First (tick_rules (bare self.now.cycle self.now.links) link tick) result }
-        {
-            if link == 0 || link > self.links {
-                return Some(BookRefusal::NoSuchLink);
-            }
-            if tick >= self.cycle {
-                return Some(BookRefusal::OutOfRange);
-            }
-            None
-        }
+        extent: Extent,
     }
 
     impl Book for Roomless {
-        ghost meaning = { λ b. bare b.cycle b.links };
+        ghost meaning = { λ b. bare b.extent.cycle b.extent.links };
 
-        ghost formed = { λ b. empty_formed b.cycle b.links 0 };
+        ghost formed = { λ b. empty_formed b.extent.cycle b.extent.links 0 };
 
         fn cycle(&self) -> u32 {
-            self.cycle
+            self.extent.cycle
         }
 
         fn links(&self) -> u32 {
-            self.links
+            self.extent.links
         }
 
         fn room(&self) -> u32 {
             0
         }
 
+        #[tactic(auto, using(crate::specs::Empty::empty_total))]
         fn count(&self) -> u32 {
             0
         }
 
         fn run(&self, link: u32, tick: u32) -> Result<(bool, u32), BookRefusal> {
-            match self.refusal(link, tick) {
-                Some(refusal) => Err(refusal),
-                None => Ok((true, self.cycle)),
-            }
+            self.extent.check_tick(link, tick)?;
+            Ok((true, self.extent.cycle))
         }
 
         fn holder(&self, link: u32, tick: u32) -> Result<Option<Holding>, BookRefusal> {
-            match self.refusal(link, tick) {
-                Some(refusal) => Err(refusal),
-                None => Ok(None),
-            }
+            self.extent.check_tick(link, tick)?;
+            Ok(None)
         }
 
         fn book(
@@ -161,38 +139,29 @@ mod tests {
             ticks: u32,
             flow: u32,
         ) -> Result<(), BookRefusal> {
-            match self.refusal(link, start) {
-                Some(refusal) => Err(refusal),
-                None => {
-                    if ticks == 0 || ticks > self.cycle || !Quantity::Flow.has(flow) {
-                        return Err(BookRefusal::OutOfRange);
-                    }
-                    Err(BookRefusal::Full)
-                }
-            }
+            self.extent
+                .check_booking(link, start, Holding { ticks, flow })?;
+            Err(BookRefusal::Full)
         }
 
         fn release(&mut self, link: u32, start: u32) -> Result<u32, BookRefusal> {
-            match self.refusal(link, start) {
-                Some(refusal) => Err(refusal),
-                None => Err(BookRefusal::NoneBegins),
-            }
+            self.extent.check_tick(link, start)?;
+            Err(BookRefusal::NoneBegins)
         }
     }
 
     // The number of a refusal, or 0.
     fn refused<T: Drop>(r: Result<T, BookRefusal>) -> u32 {
-        match r {
-            Ok(_) => 0,
-            Err(refusal) => refusal.number(),
-        }
+        r.err().map_or(0, BookRefusal::number)
     }
 
     #[test]
     fn no_room(rt: HostRuntime) {
         let mut book = Roomless {
-            cycle: 20,
-            links: 2,
+            extent: Extent {
+                cycle: 20,
+                links: 2,
+            },
         };
         assert!(rt; free_for(&book, 2, 19).is_ok());
         assert_eq!(rt; refused(free_for(&book, 0, 20)), 42);

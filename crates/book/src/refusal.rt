@@ -7,15 +7,15 @@ ghost use Rattle.book.specs.Refusals.{number_of};
 #[derive(Clone, Copy, PartialEq, Eq, Debug)]
 pub enum BookRefusal {
     /// 42: there is no link of that number.
-    NoSuchLink,
+    NoSuchLink = 42,
     /// 43: a tick, a length or a flow number is out of its range.
-    OutOfRange,
+    OutOfRange = 43,
     /// 72: a tick of the booking is covered already.
-    Covered,
+    Covered = 72,
     /// 73: as many bookings stand as there is room for.
-    Full,
+    Full = 73,
     /// 74: no booking begins at the tick.
-    NoneBegins,
+    NoneBegins = 74,
 }
 
 /// How long a booking lasts, and for whom.
@@ -32,12 +32,6 @@ impl BookRefusal {
     pub fn number(self) -> u32
         ensures { result ≡ number_of self }
     {
-        match self {
-            BookRefusal::NoSuchLink => 42,
-            BookRefusal::OutOfRange => 43,
-            BookRefusal::Covered => 72,
-            BookRefusal::Full => 73,
-            BookRefusal::NoneBegins => 74,
-        }
+        self as u32
     }
 }
