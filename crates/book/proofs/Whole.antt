@@ -1,8 +1,7 @@
 -- Whole books: what each call keeps, and that it has one answer. Assumes nothing.
 use Rattle.std.proofs.Common.{◌≡◌, ℕ, zero, suc, ◌+◌, ◌-◌, ◌<◌, ◌≤◌, Bool, List, [], ◌∷◌, length, get_or, set, Some, None, Ok, Err, Option, Result, sym, refl, ap, ◌∙◌, subst, ⊎_elim, arith, length-set}
-use borrow.Author.Tests.{clash}
 use Rattle.limits.proofs.Once.{first_once, none_hold, within_or_not}
-use Rattle.limits.specs.Refusals.{First}
+use Rattle.limits.specs.Refusals.{First, Rule}
 use Rattle.std.proofs.lemmas.Bool.{cases_lt}
 use Rattle.std.proofs.lemmas.Bool.Decides.{same_from_decides}
 use Rattle.book.specs.Calls.{tick_rules, book_rules, release_rules, TellsRun, TellsStretch, Holds, TellsHolder, Books, Releases}
@@ -71,6 +70,10 @@ stays_formed = (
   λ m link tick n after f b. subst (λ a. Formed a × (total a.rows + 1 ≡ total m.rows)) (sym b.2) (releases_formed m link tick f b.0),
 )
 
+-- a call that passes is not refused
+not_both : (rules : List (Rule BookRefusal)) (e : BookRefusal) → First rules None → First rules (Some e) → ⊥
+not_both rules e a b = let f = first_once rules None (Some e) a b in cc
+
 -- who tells the run tells a stretch
 pub tells_stretch : (m : Meaning) (link tick : ℕ) (p : Result (Bool × ℕ) BookRefusal) → TellsRun m link tick p → TellsStretch m link tick p
 tells_stretch m link tick (Ok p) t = (t.0, t.1, t.2.stretch)
@@ -78,8 +81,8 @@ tells_stretch m link tick (Err e) t = t
 
 run_once : (m : Meaning) (link tick : ℕ) (p q : Result (Bool × ℕ) BookRefusal) → TellsRun m link tick p → TellsRun m link tick q → p ≡ q
 run_once m link tick (Ok p) (Ok q) a b = λ i. Ok (same_from_decides p.0 q.0 a.1 b.1 i, run_is_one m.cycle (row m link) tick p.1 q.1 a.2 b.2 i)
-run_once m link tick (Ok p) (Err e) a b = absurd (let f = first_once (tick_rules m link tick) None (Some e) a.0 b in clash (cc))
-run_once m link tick (Err e) (Ok q) a b = absurd (let f = first_once (tick_rules m link tick) (Some e) None a b.0 in clash (cc))
+run_once m link tick (Ok p) (Err e) a b = absurd (not_both (tick_rules m link tick) e a.0 b)
+run_once m link tick (Err e) (Ok q) a b = absurd (not_both (tick_rules m link tick) e b.0 a)
 run_once m link tick (Err e) (Err d) a b = let f = first_once (tick_rules m link tick) (Some e) (Some d) a b in cc
 
 holds_once : (H : ℕ) (r : List Span) (tick : ℕ) (p q : Option Holding) → Orderly H r → Holds r tick p → Holds r tick q → p ≡ q
@@ -90,22 +93,22 @@ holds_once H r tick None None o a b = refl
 
 holder_once : (m : Meaning) (link tick : ℕ) (p q : Result (Option Holding) BookRefusal) → Formed m → TellsHolder m link tick p → TellsHolder m link tick q → p ≡ q
 holder_once m link tick (Ok p) (Ok q) f a b = ap (λ o. Ok o) (holds_once m.cycle (row m link) tick p q (orderly_row m link f) a.1 b.1)
-holder_once m link tick (Ok p) (Err e) f a b = absurd (let g = first_once (tick_rules m link tick) None (Some e) a.0 b in clash (cc))
-holder_once m link tick (Err e) (Ok q) f a b = absurd (let g = first_once (tick_rules m link tick) (Some e) None a b.0 in clash (cc))
+holder_once m link tick (Ok p) (Err e) f a b = absurd (not_both (tick_rules m link tick) e a.0 b)
+holder_once m link tick (Err e) (Ok q) f a b = absurd (not_both (tick_rules m link tick) e b.0 a)
 holder_once m link tick (Err e) (Err d) f a b = let g = first_once (tick_rules m link tick) (Some e) (Some d) a b in cc
 
 book_once : (m : Meaning) (link : ℕ) (s : Span) (p q : Result (Unit {0}) BookRefusal) (a b : Meaning) → Books m link s p a → Books m link s q b → (p ≡ q) × (a ≡ b)
 book_once m link s (Ok u) (Ok v) a b x y = (refl, x.1 ∙ sym y.1)
-book_once m link s (Ok u) (Err e) a b x y = absurd (let f = first_once (book_rules m link s) None (Some e) x.0 y.0 in clash (cc))
-book_once m link s (Err e) (Ok v) a b x y = absurd (let f = first_once (book_rules m link s) (Some e) None x.0 y.0 in clash (cc))
+book_once m link s (Ok u) (Err e) a b x y = absurd (not_both (book_rules m link s) e x.0 y.0)
+book_once m link s (Err e) (Ok v) a b x y = absurd (not_both (book_rules m link s) e y.0 x.0)
 book_once m link s (Err e) (Err d) a b x y = let f = first_once (book_rules m link s) (Some e) (Some d) x.0 y.0 in (cc, x.1 ∙ sym y.1)
 
 release_once : (m : Meaning) (link tick : ℕ) (p q : Result ℕ BookRefusal) (a b : Meaning) → Formed m → Releases m link tick p a → Releases m link tick q b → (p ≡ q) × (a ≡ b)
 release_once m link tick (Ok n) (Ok k) a b f x y =
     let same = begins_once m.cycle (row m link) _ _ (orderly_row m link f) x.1.1 y.1.1 refl in
     (λ i. Ok (same i).ticks, x.2 ∙ sym y.2)
-release_once m link tick (Ok n) (Err e) a b f x y = absurd (let g = first_once (release_rules m link tick) None (Some e) x.0 y.0 in clash (cc))
-release_once m link tick (Err e) (Ok k) a b f x y = absurd (let g = first_once (release_rules m link tick) (Some e) None x.0 y.0 in clash (cc))
+release_once m link tick (Ok n) (Err e) a b f x y = absurd (not_both (release_rules m link tick) e x.0 y.0)
+release_once m link tick (Err e) (Ok k) a b f x y = absurd (not_both (release_rules m link tick) e y.0 x.0)
 release_once m link tick (Err e) (Err d) a b f x y = let g = first_once (release_rules m link tick) (Some e) (Some d) x.0 y.0 in (cc, x.1 ∙ sym y.1)
 
 pub answers_alike : AnswersAlike

@@ -1,10 +1,11 @@
 //! How far a book reaches, and the checks that every book makes alike.
 
-ghost use Rattle.std.specs.Prelude.{[], ◌∷◌};
+ghost use Rattle.std.specs.Prelude.{◌<◌, [], ◌∷◌, OnOk};
+ghost use Rattle.limits.specs.Ranges.{Within};
 ghost use Rattle.limits.specs.Refusals.{Checks};
 ghost use Rattle.book.specs.Bare.{bare, Asked};
 ghost use Rattle.book.specs.Calls.{link_rule, span_rules, tick_rules};
-ghost use Rattle.book.specs.Spans.{span};
+ghost use Rattle.book.specs.Spans.{span, Fits};
 
 use crate::refusal::{BookRefusal, Holding};
 use limits::Quantity;
@@ -32,7 +33,9 @@ impl Extent {
 
     /// Passes a tick of a link that the book has, and else says why not: for whoever supplies a book.
     pub fn check_tick(self, link: u32, tick: u32) -> Result<(), BookRefusal>
-        ensures { Checks (tick_rules (bare self.cycle self.links) link tick) result }
+        ensures checks { Checks (tick_rules (bare self.cycle self.links) link tick) result }
+        ensures there { OnOk result (Within 1 self.links link) }
+        ensures inside { OnOk result (tick < self.cycle) }
     {
         self.check_link(link)?;
         if tick >= self.cycle {
@@ -44,7 +47,9 @@ impl Extent {
     /// Passes a booking whose link, start, length and flow number are in range, and else says why not: for whoever
     /// supplies a book.
     pub fn check_booking(self, link: u32, start: u32, holding: Holding) -> Result<(), BookRefusal>
-        ensures { Checks (span_rules (bare self.cycle self.links) link (span start holding.ticks holding.flow)) result }
+        ensures checks { Checks (span_rules (bare self.cycle self.links) link (span start holding.ticks holding.flow)) result }
+        ensures there { OnOk result (Within 1 self.links link) }
+        ensures fits { OnOk result (Fits self.cycle (span start holding.ticks holding.flow)) }
     {
         self.check_link(link)?;
         let fits = start < self.cycle
@@ -58,7 +63,8 @@ impl Extent {
 
     // Passes a link that the book has.
     fn check_link(self, link: u32) -> Result<(), BookRefusal>
-        ensures { Checks (link_rule (bare self.cycle self.links) link ∷ []) result }
+        ensures checks { Checks (link_rule (bare self.cycle self.links) link ∷ []) result }
+        ensures there { OnOk result (Within 1 self.links link) }
     {
         if !(1..=self.links).contains(&link) {
             return Err(BookRefusal::NoSuchLink);
