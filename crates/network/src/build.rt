@@ -54,7 +54,7 @@ impl Draft {
             return Err(NetworkRefusal::TooManyLinks);
         }
         self.push(Link { from, to });
-        Ok(self.link_count())
+        Ok(self.links.len() as u32)
     }
 
     /// Closes the draft, which is used up; this never refuses.

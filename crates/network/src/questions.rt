@@ -15,14 +15,14 @@ impl Network {
         ensures value { result ≡ (closed self.now).numbers }
         ensures sound { Sound (closed self.now) }
     {
-        self.wiring.numbers()
+        self.wiring.numbers
     }
 
     /// How many links there are.
     pub fn links(&self) -> u32
         ensures { result ≡ length (closed self.now).links }
     {
-        self.wiring.link_count()
+        self.wiring.links.len() as u32
     }
 
     /// The ends of the link of a number, if there is one; links are numbered from 1.

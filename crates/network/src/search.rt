@@ -1,12 +1,11 @@
-//! What drafts and networks both tell.
+//! The search for a link.
 
-ghost use Rattle.std.specs.Prelude.{◌≡◌, length, position, ◌==◌, ◌&&◌};
+ghost use Rattle.std.specs.Prelude.{◌≡◌, position, ◌==◌, ◌&&◌};
 ghost use Rattle.network.specs.Calls.{TellsNumber};
-ghost use Rattle.network.specs.Net.{Sound};
 ghost use Rattle.network.specs.Views.{drafted};
 
 use crate::draft::Draft;
-use crate::numbers::{Link, Numbers};
+use crate::numbers::Link;
 
 // The place of the link between two nodes, if there is one.
 fn place_of(links: &[Link], from: u32, to: u32) -> Option<usize>
@@ -16,21 +15,6 @@ fn place_of(links: &[Link], from: u32, to: u32) -> Option<usize>
 }
 
 impl Draft {
-    // The five numbers, which are in range.
-    pub(crate) fn numbers(&self) -> Numbers
-        ensures value { result ≡ (drafted self.now).numbers }
-        ensures sound { Sound (drafted self.now) }
-    {
-        self.numbers
-    }
-
-    // How many links were added.
-    pub(crate) fn link_count(&self) -> u32
-        ensures { result ≡ length (drafted self.now).links }
-    {
-        self.links.len() as u32
-    }
-
     // The number of the link between two nodes, if there is one.
     pub(crate) fn number_between(&self, from: u32, to: u32) -> Option<u32>
         ensures { TellsNumber (drafted self.now) from to result }
