@@ -2,14 +2,15 @@
 
 #![tactic(auto)]
 
-ghost use Rattle.std.specs.Prelude.{◌≡◌, ◌^◌, ◌<◌, ◌++◌, length, IfOk, string_bytes, OnOk};
-ghost use Rattle.limits.specs.Ranges.{frame_min, frame_max, path_link_max, LinkCount, PathLinks};
-ghost use Rattle.network.specs.Times.{FrameTime, latency};
+ghost use Rattle.std.specs.Prelude.{IfOk, string_bytes};
 ghost use Rattle.network.specs.Views.{closed};
-ghost use Rattle.wiring.specs.Texts.{number_line, number_lines, link_line, link_lines, frame_line, latency_lines, description, Describes, Tells, WiringAccount};
+ghost use Rattle.wiring.specs.Texts.{Describes, Tells, WiringAccount};
 
-use limits::{FRAME_MAX, FRAME_MIN, PATH_LINK_MAX};
-use network::{Link, Network, Numbers};
+mod lines;
+
+use limits::{FRAME_MAX, FRAME_MIN};
+use lines::{FrameLine, LatencyLines, LinkLines, NumberLines};
+use network::Network;
 use sheet::{Outcome, wire};
 use std::alloc::{AllocError, Global};
 
@@ -17,15 +18,24 @@ use std::alloc::{AllocError, Global};
 pub fn describe(heap: Global, network: &Network) -> Result<String, AllocError>
     ensures { IfOk result (λ s. Describes (closed network.now) (string_bytes s)) }
 {
-    let mut out = String::new(heap);
     let small = network.frame_time(FRAME_MIN);
     let large = network.frame_time(FRAME_MAX);
-    write_numbers(&mut out, network.numbers())?;
-    write_links(&mut out, network.wired())?;
-    write_frame(&mut out, FRAME_MIN, small)?;
-    write_frame(&mut out, FRAME_MAX, large)?;
-    write_latencies(&mut out, network, small, large)?;
-    Ok(out)
+    let numbers = NumberLines(network.numbers());
+    let links = LinkLines(network.wired());
+    let smallest = FrameLine {
+        size: FRAME_MIN,
+        ticks: small,
+    };
+    let largest = FrameLine {
+        size: FRAME_MAX,
+        ticks: large,
+    };
+    let latencies = LatencyLines {
+        network,
+        small,
+        large,
+    };
+    format!(in heap; "{numbers}{links}{smallest}{largest}{latencies}")
 }
 
 /// The account of the network that a sheet wires, or the replies to its lines up to `READY` that are refused; or want of memory.
@@ -44,78 +54,6 @@ fn tell(heap: Global, outcome: Outcome) -> Result<String, AllocError>
         Outcome::Network(network) => describe(heap, &network),
         Outcome::Refused(replies) => Ok(replies),
     }
-}
-
-// Appends a line for each of the five numbers.
-fn write_numbers(out: &mut String, numbers: Numbers) -> Result<(), AllocError>
-    ensures { OnOk result (string_bytes out.new ≡ string_bytes out.old ++ number_lines numbers) }
-{
-    write_number(out, "NODES", numbers.nodes)?;
-    write_number(out, "SPEED", numbers.speed)?;
-    write_number(out, "TICK", numbers.tick)?;
-    write_number(out, "FORWARDING", numbers.forwarding)?;
-    write_number(out, "CYCLE", numbers.cycle)?;
-    Ok(())
-}
-
-// Appends a word and a number.
-fn write_number(out: &mut String, word: &str, number: u32) -> Result<(), AllocError>
-    ensures { OnOk result (string_bytes out.new ≡ string_bytes out.old ++ number_line word.now number) }
-{
-    writeln!(out, "{word} {number}")
-}
-
-// Appends a line for each link, in order of its number.
-fn write_links(out: &mut String, links: &[Link]) -> Result<(), AllocError>
-    ensures { OnOk result (string_bytes out.new ≡ string_bytes out.old ++ link_lines 1 links.now) }
-{
-    for (place, link) in links.iter().enumerate() {
-        write_link(out, place + 1, *link)?;
-    }
-    Ok(())
-}
-
-// Appends a link of a number, and its ends.
-fn write_link(out: &mut String, number: usize, link: Link) -> Result<(), AllocError>
-    ensures { OnOk result (string_bytes out.new ≡ string_bytes out.old ++ link_line number link) }
-{
-    writeln!(out, "LINK {number} FROM {} TO {}", link.from, link.to)
-}
-
-// Appends the time of a frame of so many bytes.
-fn write_frame(out: &mut String, size: u32, ticks: u64) -> Result<(), AllocError>
-    ensures { OnOk result (string_bytes out.new ≡ string_bytes out.old ++ frame_line size ticks) }
-{
-    writeln!(out, "FRAME {size} TICKS {ticks}")
-}
-
-// Appends the latencies of paths of 1 link to as many as a path may have.
-fn write_latencies(
-    out: &mut String,
-    network: &Network,
-    small: u64,
-    large: u64,
-) -> Result<(), AllocError>
-    requires small { small < 2 ^ 32 }
-    requires large { large < 2 ^ 32 }
-    ensures { OnOk result (string_bytes out.new ≡ string_bytes out.old ++ latency_lines (closed network.now) small large 1 path_link_max) }
-{
-    for links in 1..=PATH_LINK_MAX {
-        let least = path_ticks(network, small, links);
-        let most = path_ticks(network, large, links);
-        writeln!(out, "LINKS {links} LATENCY {least} {most}")?;
-    }
-    Ok(())
-}
-
-// The latency of a path of so many links, with frames that hold a link for so many ticks.
-fn path_ticks(network: &Network, frame: u64, links: u32) -> u64
-    requires frame { frame < 2 ^ 32 }
-    requires links { PathLinks links }
-    ensures { result ≡ latency (closed network.now) frame links }
-{
-    let forwarding = u64::from(network.numbers().forwarding);
-    u64::from(links - 1) * (frame + forwarding) + frame
 }
 
 // Examples worked out by hand from the rules.

@@ -1,23 +1,37 @@
-use Rattle.std.proofs.Common.{◌++◌, string_bytes, ap, ◌∙◌, arith}
-use Rattle.limits.specs.Ranges.{frame_min, frame_max}
+use Rattle.std.proofs.Common.{◌≡◌, ℕ, List, ◌++◌, string_bytes, ap, ◌∙◌, arith}
+use Rattle.limits.specs.Ranges.{frame_min, frame_max, path_link_max}
+use Rattle.network.specs.Net.{Net}
+use Rattle.network.specs.declared.numbers.Link.{Link}
+use Rattle.network.specs.declared.numbers.Numbers.{Numbers}
 use Rattle.network.specs.Views.{closed}
-use Rattle.wiring.specs.Texts.{number_lines, link_lines}
-use Rattle.wiring.proofs.Lines.{five}
+use Rattle.std.proofs.lemmas.Result.{IfOk-weaker}
+use Rattle.wiring.specs.Texts.{number_lines, link_lines, frame_line, latency_lines, description, Describes}
 use Rattle.wiring.proofs.Ticks.{frame_time_few}
 use Rattle.wiring.proofs.describe.Goals as goal
 
-pub write_latencies-requires-clause-small : goal.write_latencies-requires-clause-small
-write_latencies-requires-clause-small c = frame_time_few (closed c.args.network.now) frame_min _ c.numbers.ensures.sound (omega arith) c.frame_time-small.ensures
-
-pub write_latencies-requires-clause-large : goal.write_latencies-requires-clause-large
-write_latencies-requires-clause-large c = frame_time_few (closed c.args.network.now) frame_max _ c.numbers.ensures.sound (omega arith) c.frame_time-large.ensures
+pub invariant_of-latencies : goal.invariant_of-latencies
+invariant_of-latencies c =
+    let net = closed c.args.network.now in
+    let sound = c.numbers.ensures.sound in
+    record {
+      few = frame_time_few net frame_min _ sound (omega arith) c.frame_time-small.ensures;
+      many = frame_time_few net frame_max _ sound (omega arith) c.frame_time-large.ensures;
+    }
 
 pub returns : goal.returns
-returns c =
-    let all = five (string_bytes c.new-out.result) _ _ _ _ _
-    (c.in_ok-write_numbers.ensures ∙ ap (λ n. string_bytes c.new-out.result ++ number_lines n) c.numbers.ensures.value)
-    (c.in_ok-write_links.ensures ∙ ap (λ ls. string_bytes c.write_numbers.new.out ++ link_lines 1 ls) c.wired.ensures)
-    c.in_ok-write_frame.ensures
-    c.in_ok-write_frame-2.ensures
-    c.in_ok-write_latencies.ensures in
-    (c.frame_time-small.result, c.frame_time-large.result, c.frame_time-small.ensures, c.frame_time-large.ensures, rw c.new-out.ensures.bytes at all)
+returns c = IfOk-weaker c.format.result _ (λ s. Describes net (string_bytes s)) (λ s told. (small, large, c.frame_time-small.ensures, c.frame_time-large.ensures, all (string_bytes s) told)) c.format.ensures.ok
+  where
+    net : Net
+    net = closed c.args.network.now
+
+    small : ℕ
+    small = c.frame_time-small.result
+
+    large : ℕ
+    large = c.frame_time-large.result
+
+    lines : Numbers → List Link → List ℕ
+    lines numbers links = number_lines numbers ++ (link_lines 1 links ++ (frame_line frame_min small ++ (frame_line frame_max large ++ latency_lines net small large 1 path_link_max)))
+
+    all : (text : List ℕ) → text ≡ lines c.numbers.result c.wired.result.now → text ≡ description net small large
+    all text told = told ∙ ap (λ n. lines n c.wired.result.now) c.numbers.ensures.value ∙ ap (lines net.numbers) c.wired.ensures
