@@ -4,7 +4,7 @@ mod Lists
 mod States
 mod Searches
 mod Outcomes
-pub mod Ordered
-pub mod Props
+mod Ordered
+mod Props
 mod Blanks
 mod Walks

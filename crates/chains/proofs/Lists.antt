@@ -1,7 +1,8 @@
 -- Records at places, and lists of records by key. Assumes nothing.
-use Rattle.std.proofs.Common.{◌≡◌, ℕ, zero, suc, ◌<◌, ◌≤◌, eqb, ltb, List, [], ◌∷◌, ◌++◌, length, get_or, drop, set, refl, ap, ◌∙◌, inl, inr, arith}
+use Rattle.std.proofs.Common.{◌≡◌, ℕ, zero, suc, ◌<◌, ◌≤◌, eqb, ltb, List, [], ◌∷◌, ◌++◌, length, get_or, drop, set, sym, refl, ap, ◌∙◌, inl, inr, arith}
 use Rattle.std.proofs.lemmas.Bool.{eq-eqb, ne_eqb, lt-ltb, le-ltb, cond-true, cond-false}
-use Rattle.chains.specs.Places.{Trail, fronted, records, values}
+use Rattle.std.proofs.lemmas.List.{get_or-map}
+use Rattle.chains.specs.Places.{Trail, fronted, nexts, records, values}
 use Rattle.chains.specs.declared.slot.Slot.{Slot}
 use Rattle.chains.specs.Records.{In, Lacks, FirstWith, insert, without, replace}
 
@@ -72,8 +73,17 @@ first_there key k [] r found lacks = found
 first_there key k (x ∷ xs) r (inl here) lacks = lacks.0 here.0
 first_there key k (x ∷ xs) r (inr there) lacks = first_there key k xs r there.1 lacks.1
 
--- the record of a slot
-pub slot_item : {R : Type 0} (slots : List (Slot R)) (i : ℕ) (d : Slot R) → i < length slots → records (values slots) (i ∷ []) ≡ (get_or slots i d).item ∷ []
-slot_item [] i d l = absurd (omega arith)
-slot_item (s ∷ slots) zero d l = refl
-slot_item (s ∷ slots) (suc i) d l = slot_item slots i d (omega arith)
+-- a slot that is read: its link, and its record
+pub link_at : {R : Type 0} (slots : List (Slot R)) (i : ℕ) (d : Slot R) → i < length slots → (get_or slots i d).next ≡ get_or (nexts slots) i 0
+link_at slots i d l = sym (get_or-map (λ x. x.next) slots i d 0 l)
+
+pub slot_link : {R : Type 0} (slots : List (Slot R)) (i : ℕ) (s : Slot R) → i < length slots → s ≡ get_or slots i s → s.next ≡ get_or (nexts slots) i 0
+slot_link slots i s l is = ap (λ x. x.next) is ∙ link_at slots i s l
+
+pub item_at : {R : Type 0} (slots : List (Slot R)) (i : ℕ) (d : Slot R) → i < length slots → records (values slots) (i ∷ []) ≡ (get_or slots i d).item ∷ []
+item_at [] i d l = absurd (omega arith)
+item_at (s ∷ slots) zero d l = refl
+item_at (s ∷ slots) (suc i) d l = item_at slots i d (omega arith)
+
+pub slot_item : {R : Type 0} (slots : List (Slot R)) (i : ℕ) (s : Slot R) → i < length slots → s ≡ get_or slots i s → records (values slots) (i ∷ []) ≡ s.item ∷ []
+slot_item slots i s l is = item_at slots i s l ∙ ap (λ x. x.item ∷ []) (sym is)

@@ -1,5 +1,5 @@
 -- Records in the order of their keys, and all chains in order. Assumes nothing.
-use Rattle.std.proofs.Common.{◌≡◌, ℕ, zero, suc, ◌+◌, ◌-◌, ◌<◌, eqb, ltb, ◌⊎◌, List, [], ◌∷◌, length, get_or, set, Ok, Err, Result, sym, refl, ap, ◌∙◌, subst, inl, inr, ⊎_elim, arith}
+use Rattle.std.proofs.Common.{◌≡◌, ℕ, zero, suc, ◌+◌, ◌-◌, ◌<◌, eqb, ltb, ◌⊎◌, List, [], ◌∷◌, length, get_or, set, replicate, Ok, Err, Result, sym, refl, ap, ◌∙◌, subst, inl, inr, ⊎_elim, arith}
 use Rattle.limits.proofs.Once.{none_hold}
 use Rattle.std.proofs.lemmas.Bool.{eqb-true, eqb-false, ltb-true, ltb-false, cond_both}
 use Rattle.chains.specs.Calls.{Content, insert_rules, Inserts, Removes, Replaces}
@@ -100,6 +100,10 @@ module _ {R : Type 0} (key : R → ℕ) where
     without_counts = without_counts;
   }
 
+  pub none_ascend : (n : ℕ) → AllAscend key (replicate n [])
+  none_ascend zero = tt
+  none_ascend (suc n) = (tt, none_ascend n)
+
   ascend_set : (rows : List (List R)) (i : ℕ) (rs : List R) → AllAscend key rows → Ascends key rs → AllAscend key (set rows i rs)
   ascend_set [] i rs h o = tt
   ascend_set (x ∷ xs) zero rs h o = (o, h.1)
@@ -110,7 +114,7 @@ module _ {R : Type 0} (key : R → ℕ) where
   ascend_at (x ∷ xs) zero h = h.0
   ascend_at (x ∷ xs) (suc i) h = ascend_at xs i h.1
 
-  ascend_row : (rows : List (List R)) (c : ℕ) → AllAscend key rows → Ascends key (row rows c)
+  pub ascend_row : (rows : List (List R)) (c : ℕ) → AllAscend key rows → Ascends key (row rows c)
   ascend_row rows zero h = tt
   ascend_row rows (suc c) h = ascend_at rows c h
 

@@ -1,18 +1,20 @@
 -- What a search finds, and what a call makes of all chains. Assumes nothing.
-use Rattle.std.proofs.Common.{◌≡◌, ℕ, zero, suc, ◌+◌, ◌-◌, ◌<◌, ◌≤◌, List, [], ◌∷◌, ◌++◌, map, length, get_or, set, sym, refl, ap, ◌∙◌, subst, inl, inr, ⊎_elim, arith, length-set}
+use Rattle.std.proofs.Common.{◌≡◌, ℕ, zero, suc, ◌+◌, ◌-◌, ◌<◌, ◌≤◌, Bool, true, false, eqb, ltb, not, List, [], ◌∷◌, ◌++◌, map, length, get_or, set, Some, None, Ok, Err, Option, Result, is_some, ok_or, sym, refl, ap, ◌∙◌, subst, inl, inr, ⊎_elim, arith, length-set}
 use Rattle.limits.specs.Ranges.{Within}
+use Rattle.limits.specs.Refusals.{First}
+use Rattle.limits.proofs.Once.{none_hold}
 use Rattle.std.proofs.lemmas.List.{append-nil, length-append, length-map, get_or-map}
-use Rattle.std.proofs.lemmas.Bool.{cases_eq, cases_lt}
-use Rattle.chains.specs.Boards.{slots_of, stored, Kept, Hung, Unhung, Rewritten}
-use Rattle.chains.specs.Calls.{with_row}
+use Rattle.std.proofs.lemmas.Bool.{cases_eq, cases_Bool, eqb-true, eqb-false, ltb-true, ltb-false}
+use Rattle.chains.specs.Boards.{slots_of, stored, Kept, Begins, Seeks, Seats, Hung, Unhung, Rewritten}
+use Rattle.chains.specs.Calls.{Content, with_row, find_rules, insert_rules, Inserts, Removes, Replaces}
 use Rattle.chains.specs.Places.{nexts, values, places, records, rows_of, Trail, Ends, Sound}
 use Rattle.chains.specs.Records.{In, Lacks, FirstWith, insert, without, replace, total, row}
-use Rattle.chains.specs.Steps.{Last, relinked, Passed, Stopped, Located}
+use Rattle.chains.specs.Steps.{Last, relinked, Passed, Stopped, UpTo, Other, Located, Found, FindsPlace}
 use Rattle.chains.specs.declared.board.Board.{Board}
+use Rattle.chains.specs.declared.slot.ChainRefusal.{ChainRefusal}
+use Rattle.chains.specs.declared.slot.ChainRefusal.TheVariants.{Absent}
 use Rattle.chains.specs.declared.slot.Slot.{Slot}
-use Rattle.chains.specs.declared.stop.Stop.{Stop}
-use Rattle.chains.specs.declared.stop.Stop.TheVariants.{AtKey, PastKey}
-use Rattle.chains.proofs.Lists.{fronted_at, records_append, records_count, insert_at, without_at, replace_at, first_at, first_there}
+use Rattle.chains.proofs.Lists.{fronted_at, item_at, records_append, records_count, insert_at, without_at, replace_at, first_at, first_there}
 use Rattle.chains.proofs.Moves.{total_set, total_covers}
 use Rattle.chains.proofs.Searches.{starts, ended, records_from}
 use Rattle.chains.proofs.States.{Spot, sound_in, rows_in, sound_out, rows_out, rows_changed, length_relinked, length_retopped, last_in}
@@ -36,67 +38,78 @@ outside hs slots c out w = out (record { least = w.least; most = omega (arith, w
 pub inside : {R : Type 0} (hs : List ℕ) (slots : List (Slot R)) (c : ℕ) → Within 1 (length hs) c → (Within 1 (length (rows_of hs slots)) c → ⊥) → ⊥
 inside hs slots c w out = out (record { least = w.least; most = omega (arith, w.most, length-map hs (λ p. records (values slots) (places (nexts slots) p))) })
 
-passed_lacks : {R : Type 0} (key : R → ℕ) (k : ℕ) (rs : List R) → Passed AtKey key k rs → Lacks key k rs
+passed_lacks : {R : Type 0} (key : R → ℕ) (k : ℕ) (rs : List R) → Passed (Other k) key rs → Lacks key k rs
 passed_lacks key k [] p = tt
 passed_lacks key k (r ∷ rs) p = (p.0, passed_lacks key k rs p.1)
 
-passed_low : {R : Type 0} (key : R → ℕ) (k : ℕ) (rs : List R) → Passed PastKey key k rs → (x : R) → In x rs → key x ≤ k
+passed_low : {R : Type 0} (key : R → ℕ) (k : ℕ) (rs : List R) → Passed (UpTo k) key rs → (x : R) → In x rs → key x ≤ k
 passed_low key k [] p x here = absurd here
 passed_low key k (r ∷ rs) p x (inl e) = omega (arith, p.0, ap key e)
 passed_low key k (r ∷ rs) p x (inr there) = passed_low key k rs p.1 x there
 
-stopped_high : {R : Type 0} (key : R → ℕ) (k : ℕ) (rs : List R) → Stopped PastKey key k rs → (y : R) (zs : List R) → rs ≡ y ∷ zs → k < key y
+stopped_high : {R : Type 0} (key : R → ℕ) (k : ℕ) (rs : List R) → Stopped (UpTo k) key rs → (y : R) (zs : List R) → rs ≡ y ∷ zs → k < key y
 stopped_high key k [] s y zs e = absurd (let n = ap length e in omega arith)
-stopped_high key k (r ∷ rs) s y zs e = ⊎_elim (λ h. h) (λ le. absurd (s (omega (arith, let f : r ≡ y = cc in ap key f)))) (cases_lt k (key y))
+stopped_high key k (r ∷ rs) s y zs e = let f : r ≡ y = cc in subst (λ z. k < key z) f s
 
--- a search along a chain, by where the chain begins
-pub from_there : {R : Type 0} {stop : Stop} {key : R → ℕ} {j k : ℕ} {nx : List ℕ} {vs : List R} {p q at next : ℕ} → p ≡ q → j ≡ k → Located stop key j nx vs p at next → Located stop key k nx vs q at next
-from_there {R} {stop} {key} {j} {k} {nx} {vs} {p} {q} {at} {next} e f l = subst (λ (x : ℕ). Located stop key k nx vs x at next) e (subst (λ (x : ℕ). Located stop key x nx vs p at next) f l)
+-- what the two tests of a key answer
+pub is_up_to : (k n : ℕ) (b : Bool) → b ≡ not (ltb k n) → UpTo k n b
+is_up_to k n true e = ⊎_elim (λ above. absurd (cc)) (λ low. ltb-false k n low) (cases_Bool (ltb k n))
+is_up_to k n false e = ⊎_elim (λ above. ltb-true k n above) (λ low. absurd (cc)) (cases_Bool (ltb k n))
 
--- no record has the key where the search comes to the end
-pub absent : {R : Type 0} (key : R → ℕ) (k : ℕ) (nx : List ℕ) (vs : List R) (p at next : ℕ) → Located AtKey key k nx vs p at next → next ≡ 0 → Lacks key k (records vs (places nx p))
-absent key k nx vs p at next l none =
+pub is_other : (k n : ℕ) (b : Bool) → b ≡ not (eqb n k) → Other k n b
+is_other k n true e = ⊎_elim (λ same. absurd (cc)) (λ apart. eqb-false n k apart) (cases_Bool (eqb n k))
+is_other k n false e = ⊎_elim (λ same. eqb-true n k same) (λ apart. absurd (cc)) (cases_Bool (eqb n k))
+
+-- a lookup by what another test answers alike
+passed_as : {R : Type 0} (one other : ℕ → Bool → Type 0) (key : R → ℕ) (rs : List R) → ((n : ℕ) (b : Bool) → one n b → other n b) → Passed one key rs → Passed other key rs
+passed_as one other key [] same p = tt
+passed_as one other key (r ∷ rs) same p = (same (key r) true p.0, passed_as one other key rs same p.1)
+
+stopped_as : {R : Type 0} (one other : ℕ → Bool → Type 0) (key : R → ℕ) (rs : List R) → ((n : ℕ) (b : Bool) → one n b → other n b) → Stopped one key rs → Stopped other key rs
+stopped_as one other key [] same s = tt
+stopped_as one other key (r ∷ rs) same s = same (key r) false s
+
+pub located_as : {R : Type 0} {one other : ℕ → Bool → Type 0} {key : R → ℕ} {nx : List ℕ} {vs : List R} {p at next : ℕ} → ((n : ℕ) (b : Bool) → one n b → other n b) → Located one key nx vs p at next → Located other key nx vs p at next
+located_as {R} {one} {other} {key} {nx} {vs} {p} {at} {next} same l =
+    let s = l.reached in
+    record {
+      reached = record { before = s.before; after = s.after; split = s.split; last = s.last; trail = s.trail; passed = passed_as one other key (records vs s.before) same s.passed };
+      stopped = stopped_as one other key (records vs s.after) same l.stopped;
+    }
+
+-- no record has the key where the lookup comes to the end
+pub absent : {R : Type 0} {key : R → ℕ} {k : ℕ} {nx : List ℕ} {vs : List R} {p at next : ℕ} → Located (Other k) key nx vs p at next → next ≡ 0 → Lacks key k (records vs (places nx p))
+absent {R} {key} {k} {nx} {vs} {p} {at} {next} l none =
     let s = l.reached in
     let all : places nx p ≡ s.before = s.split ∙ ap (λ zs. s.before ++ zs) (ended nx next s.after s.trail none) ∙ append-nil s.before in
     subst (λ is. Lacks key k (records vs is)) (sym all) (passed_lacks key k (records vs s.before) s.passed)
 
--- the record r at the place next is the first that has the key
-pub record Found {R : Type 0} (key : R → ℕ) (k : ℕ) (nx : List ℕ) (vs : List R) (p at next : ℕ) (r : R) : Type 0 where
-  pub before : List ℕ
-  pub after : List ℕ
-  pub split : places nx p ≡ before ++ next ∷ after
-  pub last : Last before at
-  pub lacks : Lacks key k (records vs before)
-  pub own : key r ≡ k
-  pub items : records vs (places nx p) ≡ records vs before ++ r ∷ records vs after
-
-pub found : {R : Type 0} (key : R → ℕ) (k : ℕ) (nx : List ℕ) (vs : List R) (p at next : ℕ) (r : R) → Located AtKey key k nx vs p at next → (next ≡ 0 → ⊥) → records vs (next ∷ []) ≡ r ∷ [] → Found key k nx vs p at next r
-found key k nx vs p at next r l some here =
+-- the record that has it stands where the lookup stops
+pub found : {R : Type 0} {key : R → ℕ} {k : ℕ} {nx : List ℕ} {vs : List R} {p at next : ℕ} → length vs ≡ length nx → Located (Other k) key nx vs p at next → (next ≡ 0 → ⊥) → Found key k nx vs p at next
+found {R} {key} {k} {nx} {vs} {p} {at} {next} same l some =
     let s = l.reached in
     let (js, is, pos, below, t) = starts nx next s.after s.trail some in
-    let all : places nx p ≡ s.before ++ next ∷ js = s.split ∙ ap (λ zs. s.before ++ zs) is in
-    let front : records vs s.after ≡ r ∷ records vs js = ap (records vs) is ∙ records_from vs next js r here in
-    let stop : (key r ≡ k → ⊥) → ⊥ = subst (Stopped AtKey key k) front l.stopped in
+    let (r, here) = fronted_at vs next (omega (arith, below)) in
+    let front : records vs s.after ≡ r ∷ records vs js = ap (records vs) is ∙ here (records vs js) in
     record {
       before = s.before;
       after = js;
-      split = all;
+      split = s.split ∙ ap (λ zs. s.before ++ zs) is;
       last = s.last;
       lacks = passed_lacks key k (records vs s.before) s.passed;
-      own = ⊎_elim (λ e. e) (λ other. absurd (stop other)) (cases_eq (key r) k);
-      items = ap (records vs) all ∙ records_append vs s.before (next ∷ js) ∙ ap (λ zs. records vs s.before ++ zs) (records_from vs next js r here);
+      stands = (r, here [], subst (Stopped (Other k) key) front l.stopped);
     }
 
-pub found_first : {R : Type 0} {key : R → ℕ} {k : ℕ} {nx : List ℕ} {vs : List R} {p at next : ℕ} {r : R} → Found key k nx vs p at next r → FirstWith key k (records vs (places nx p)) r
-found_first {R} {key} {k} {nx} {vs} {p} {at} {next} {r} f = subst (λ rs. FirstWith key k rs r) (sym f.items) (first_at key k (records vs f.before) r (records vs f.after) f.lacks f.own)
+-- the record r at that place has the key, and is the first that has
+module _ {R : Type 0} {key : R → ℕ} {k : ℕ} {nx : List ℕ} {vs : List R} {p at next : ℕ} (f : Found key k nx vs p at next) (r : R) (here : records vs (next ∷ []) ≡ r ∷ []) where
+  pub found_own : key r ≡ k
+  found_own = let (s, there, own) = f.stands in let same : s ≡ r = cc in subst (λ x. key x ≡ k) same own
 
--- the place where a search has come to has a record
-pub there_is : {R : Type 0} (vs : List R) (i : ℕ) → i < length vs → (r : R) × (records vs (i ∷ []) ≡ r ∷ [])
-there_is vs i l = let (v, at) = fronted_at vs i l in (v, at [])
+  pub found_items : records vs (places nx p) ≡ records vs f.before ++ r ∷ records vs f.after
+  found_items = ap (records vs) f.split ∙ records_append vs f.before (next ∷ f.after) ∙ ap (λ zs. records vs f.before ++ zs) (records_from vs next f.after r here)
 
--- a search stands within the slots
-pub next_below : {R : Type 0} {key : R → ℕ} {k : ℕ} {nx : List ℕ} {vs : List R} {p at next : ℕ} → Located AtKey key k nx vs p at next → (next ≡ 0 → ⊥) → next < length nx
-next_below {R} {key} {k} {nx} {vs} {p} {at} {next} l some = (starts nx next l.reached.after l.reached.trail some).3
+  pub found_first : FirstWith key k (records vs (places nx p)) r
+  found_first = subst (λ rs. FirstWith key k rs r) (sym found_items) (first_at key k (records vs f.before) r (records vs f.after) f.lacks found_own)
 
 at_below : (nx : List ℕ) (p at : ℕ) (before after : List ℕ) → Ends nx p → places nx p ≡ before ++ after → Last before at → 0 < length nx → at < length nx
 at_below nx p at before after t split last some =
@@ -170,10 +183,10 @@ module _ {R : Type 0} {N : ℕ} (n : ℕ) (b : Board R N) (kept : Kept n b) wher
     recount : (new : List R) → total (set (rows_of hs slots) (c - 1) new) + length (records vs (places nx p)) ≡ total (rows_of hs slots) + length new
     recount new = let l : c - 1 < length (rows_of hs slots) = omega (arith, chained, rows_count) in omega (arith, total_set (rows_of hs slots) (c - 1) new l, ap length (sym (row_at (rows_of hs slots) c w.least) ∙ row_is hs slots c w))
 
-    module _ (key : R → ℕ) (r : R) (at next : ℕ) (l : Located PastKey key (key r) nx vs p at next) (some : b.spare ≡ 0 → ⊥) where
-      pub at_of_insert : at < length slots
-      at_of_insert = omega (arith, at_below nx p at l.reached.before l.reached.after (chain_ends c w) l.reached.split l.reached.last (omega (arith, (spare_starts some).1)), slots_are)
+    pub at_of_insert : {answers : ℕ → Bool → Type 0} {key : R → ℕ} {at next : ℕ} → Located answers key nx vs p at next → (b.spare ≡ 0 → ⊥) → at < length slots
+    at_of_insert {answers} {key} {at} {next} l some = omega (arith, at_below nx p at l.reached.before l.reached.after (chain_ends c w) l.reached.split l.reached.last (omega (arith, (spare_starts some).1)), slots_are)
 
+    module _ (key : R → ℕ) (r : R) (at next : ℕ) (l : Located (UpTo (key r)) key nx vs p at next) (some : b.spare ≡ 0 → ⊥) where
       -- one record more
       pub inserted : (b' : Board R N) → Hung b (c - 1) at next r b' → Kept n b' × (stored b' ≡ with_row (stored b) c (insert key r (row (rows_of hs slots) c)))
       inserted b' h =
@@ -196,34 +209,48 @@ module _ {R : Type 0} {N : ℕ} (n : ℕ) (b : Board R N) (kept : Kept n b) wher
             λ i. record { rows = (all ∙ ap (set (rows_of hs slots) (c - 1)) (sym is-new)) i; room = ap (λ m. m - 1) same i },
           )
 
-    module _ (key : R → ℕ) (k : ℕ) (at next : ℕ) (r : R) (f : Found key k nx vs p at next r) where
-      pub found_row : FirstWith key k (row (rows_of hs slots) c) r
-      found_row = subst (λ rs. FirstWith key k rs r) (sym (row_is hs slots c w)) (found_first f)
+    module _ (key : R → ℕ) (k : ℕ) (at next : ℕ) (f : Found key k nx vs p at next) where
+      pub found_row : (r : R) → records vs (next ∷ []) ≡ r ∷ [] → FirstWith key k (row (rows_of hs slots) c) r
+      found_row r here = subst (λ rs. FirstWith key k rs r) (sym (row_is hs slots c w)) (found_first f r here)
 
       pub found_there : Lacks key k (row (rows_of hs slots) c) → ⊥
-      found_there lacks = first_there key k (row (rows_of hs slots) c) r found_row lacks
+      found_there lacks = first_there key k (row (rows_of hs slots) c) f.stands.0 (found_row f.stands.0 f.stands.1) lacks
+
+      pub found_rules : First (find_rules key (stored b) c k) None
+      found_rules = inr (inside hs slots c w, inr (found_there, refl))
+
+      stands_in : (0 < next) × (next < length nx)
+      stands_in = in_range nx p (f.before ++ next ∷ f.after) next (subst (Trail nx p) f.split (chain_ends c w)) (in_after next f.before (next ∷ f.after) (inl refl))
+
+      pub place_below : next < length slots
+      place_below = omega (arith, stands_in.1, slots_are)
 
       pub at_of_remove : at < length slots
-      at_of_remove =
-          let q-in = in_range nx p (f.before ++ next ∷ f.after) next (subst (Trail nx p) f.split (chain_ends c w)) (in_after next f.before (next ∷ f.after) (inl refl)) in
-          omega (arith, at_below nx p at f.before (next ∷ f.after) (chain_ends c w) f.split f.last (omega (arith, q-in.1)), slots_are)
+      at_of_remove = omega (arith, at_below nx p at f.before (next ∷ f.after) (chain_ends c w) f.split f.last (omega (arith, stands_in.1)), slots_are)
+
+      -- the record that is read there
+      pub found_item : (d : Slot R) → FirstWith key k (row (rows_of hs slots) c) (get_or slots next d).item
+      found_item d = found_row (get_or slots next d).item (item_at slots next d place_below)
+
+      items : records vs (places nx p) ≡ records vs f.before ++ f.stands.0 ∷ records vs f.after
+      items = found_items f f.stands.0 f.stands.1
 
       pub some_stand : 0 < b.count
       some_stand =
-          let e = ap length f.items in
-          let g = length-append (records vs f.before) (r ∷ records vs f.after) in
+          let e = ap length items in
+          let g = length-append (records vs f.before) (f.stands.0 ∷ records vs f.after) in
           omega (arith, kept.counted, total_covers (rows_of hs slots) (c - 1), ap length (sym (row_at (rows_of hs slots) c w.least) ∙ row_is hs slots c w))
 
       -- one record fewer
       pub removed : (b' : Board R N) → Unhung b (c - 1) at next b' → Kept n b' × (stored b' ≡ with_row (stored b) c (without key k (row (rows_of hs slots) c)))
       removed b' h =
           let new = records vs f.before ++ records vs f.after in
-          let is-new : without key k (row (rows_of hs slots) c) ≡ new = ap (without key k) (row_is hs slots c w ∙ f.items) ∙ without_at key k (records vs f.before) r (records vs f.after) f.lacks f.own in
+          let is-new : without key k (row (rows_of hs slots) c) ≡ new = ap (without key k) (row_is hs slots c w ∙ items) ∙ without_at key k (records vs f.before) f.stands.0 (records vs f.after) f.lacks f.stands.2 in
           let rest = get_or nx next 0 in
           let same : length (slots_of b') ≡ length slots = sym (length-map (slots_of b') (λ x. x.next)) ∙ ap length h.links ∙ length-set (relinked nx at rest) next b.spare ∙ length_relinked nx at rest ∙ slots_are in
           let all : rows_of b'.heads (slots_of b') ≡ set (rows_of hs slots) (c - 1) new =
           (λ i. map (λ q. records (h.items i) (places (h.links i) q)) (h.heads i)) ∙ rows_out hs nx b.spare (c - 1) kept.sound chained at next f.before f.after f.split f.last vs in
-          let few : length (records vs (places nx p)) ≡ length new + 1 = let e = ap length f.items in let g = length-append (records vs f.before) (r ∷ records vs f.after) in let m = length-append (records vs f.before) (records vs f.after) in omega arith in (
+          let few : length (records vs (places nx p)) ≡ length new + 1 = let e = ap length items in let g = length-append (records vs f.before) (f.stands.0 ∷ records vs f.after) in let m = length-append (records vs f.before) (records vs f.after) in omega arith in (
             record {
               all = ap length h.heads ∙ length_retopped hs (c - 1) at rest ∙ kept.all;
               sound = subst (Sound (b'.spare ∷ b'.heads)) (sym h.links) (subst (λ ts. Sound ts (set (relinked nx at rest) next b.spare)) (λ i. sym h.spare i ∷ sym h.heads i) (sound_out hs nx b.spare (c - 1) kept.sound chained at next f.before f.after f.split f.last));
@@ -233,15 +260,15 @@ module _ {R : Type 0} {N : ℕ} (n : ℕ) (b : Board R N) (kept : Kept n b) wher
           )
 
     -- another record in the place of one
-    module _ (key : R → ℕ) (at next : ℕ) (old r : R) (f : Found key (key r) nx vs p at next old) where
+    module _ (key : R → ℕ) (at next : ℕ) (r : R) (f : Found key (key r) nx vs p at next) where
       pub replaced : (b' : Board R N) → Rewritten b next r b' → Kept n b' × (stored b' ≡ with_row (stored b) c (replace key r (row (rows_of hs slots) c)))
       replaced b' h =
           let new = records vs f.before ++ r ∷ records vs f.after in
-          let is-new : replace key r (row (rows_of hs slots) c) ≡ new = ap (replace key r) (row_is hs slots c w ∙ f.items) ∙ replace_at key r (records vs f.before) old (records vs f.after) f.lacks f.own in
+          let is-new : replace key r (row (rows_of hs slots) c) ≡ new = ap (replace key r) (row_is hs slots c w ∙ items key (key r) at next f) ∙ replace_at key r (records vs f.before) f.stands.0 (records vs f.after) f.lacks f.stands.2 in
           let same : length (slots_of b') ≡ length slots = sym (length-map (slots_of b') (λ x. x.next)) ∙ ap length h.links ∙ slots_are in
           let all : rows_of b'.heads (slots_of b') ≡ set (rows_of hs slots) (c - 1) new =
           (λ i. map (λ q. records (h.items i) (places (h.links i) q)) (h.heads i)) ∙ rows_changed hs nx b.spare (c - 1) kept.sound chained at next f.before f.after f.split f.last vs r lengths in
-          let few : length new ≡ length (records vs (places nx p)) = let e = ap length f.items in let g = length-append (records vs f.before) (old ∷ records vs f.after) in let m = length-append (records vs f.before) (r ∷ records vs f.after) in omega arith in (
+          let few : length new ≡ length (records vs (places nx p)) = let e = ap length (items key (key r) at next f) in let g = length-append (records vs f.before) (f.stands.0 ∷ records vs f.after) in let m = length-append (records vs f.before) (r ∷ records vs f.after) in omega arith in (
             record {
               all = ap length h.heads ∙ kept.all;
               sound = subst (Sound (b'.spare ∷ b'.heads)) (sym h.links) (subst (λ ts. Sound ts nx) (λ i. sym h.spare i ∷ sym h.heads i) kept.sound);
@@ -249,3 +276,63 @@ module _ {R : Type 0} {N : ℕ} (n : ℕ) (b : Board R N) (kept : Kept n b) wher
             },
             λ i. record { rows = (all ∙ ap (set (rows_of hs slots) (c - 1)) (sym is-new)) i; room = ap (λ m. m - 1) same i },
           )
+
+-- where a chain begins whose number is not refused
+pub begun : (hs : List ℕ) (c p : ℕ) (o : Option ℕ) (e : ChainRefusal) → Begins hs c o → Ok p ≡ ok_or o e → Within 1 (length hs) c × (p ≡ get_or hs (c - 1) 0)
+begun hs c p (Some q) e begins is = let same : p ≡ q = cc in (begins.0, same ∙ begins.1)
+begun hs c p None e begins is = absurd (cc)
+
+-- where a record is taken in there is a spare slot
+pub spare_left : {R : Type 0} {N : ℕ} (n : ℕ) (b : Board R N) (kept : Kept n b) (key : R → ℕ) (c k : ℕ) → First (insert_rules key (stored b) c k) None → b.spare ≡ 0 → ⊥
+spare_left n b kept key c k none e = let (there, (present, (roomy, end))) = none_hold (insert_rules key (stored b) c k) none in roomy (full n b kept e)
+
+-- a chain that begins at p ends there, and what a lookup along it finds is told of the chains
+module _ {R : Type 0} {N : ℕ} (n : ℕ) (b : Board R N) (kept : Kept n b) (c p : ℕ) (begins : Within 1 (length b.heads) c × (p ≡ get_or b.heads (c - 1) 0)) where
+  pub ends_there : Ends (nexts (slots_of b)) p
+  ends_there = subst (Ends (nexts (slots_of b))) (sym begins.1) (chain_ends n b kept c begins.0)
+
+  pub there : (Within 1 (length (rows_of b.heads (slots_of b))) c → ⊥) → ⊥
+  there = inside b.heads (slots_of b) c begins.0
+
+  module _ (key : R → ℕ) (k : ℕ) where
+    pub lacking : Lacks key k (records (values (slots_of b)) (places (nexts (slots_of b)) p)) → Lacks key k (row (rows_of b.heads (slots_of b)) c)
+    lacking = subst (Lacks key k) (ap (λ q. records (values (slots_of b)) (places (nexts (slots_of b)) q)) begins.1 ∙ sym (row_is b.heads (slots_of b) c begins.0))
+
+    pub sought : (o : Option (ℕ × ℕ)) → FindsPlace key k (nexts (slots_of b)) (values (slots_of b)) p o → Seeks key b c k (ok_or o Absent)
+    sought (Some s) f = (begins.0, subst (λ q. Found key k (nexts (slots_of b)) (values (slots_of b)) q s.0 s.1) begins.1 f)
+    sought None lacks = inr (there, inl (lacking lacks, refl))
+
+    pub some_has : (o : Option (ℕ × ℕ)) → FindsPlace key k (nexts (slots_of b)) (values (slots_of b)) p o → true ≡ is_some o → Lacks key k (row (rows_of b.heads (slots_of b)) c) → ⊥
+    some_has (Some s) f is = found_there n b kept c begins.0 key k s.0 s.1 (subst (λ q. Found key k (nexts (slots_of b)) (values (slots_of b)) q s.0 s.1) begins.1 f)
+    some_has None lacks is = absurd (cc)
+
+    pub none_has : (o : Option (ℕ × ℕ)) → FindsPlace key k (nexts (slots_of b)) (values (slots_of b)) p o → false ≡ is_some o → Lacks key k (row (rows_of b.heads (slots_of b)) c)
+    none_has (Some s) f is = absurd (cc)
+    none_has None lacks is = lacking lacks
+
+-- what the calls answer where they are refused
+module _ {R : Type 0} (key : R → ℕ) (m : Content R) (c k : ℕ) (e : ChainRefusal) where
+  pub inserts_not : (r : R) (o : Result (Unit {0}) ChainRefusal) → k ≡ key r → o ≡ Err e → First (insert_rules key m c k) (Some e) → Inserts key m c r o m
+  inserts_not r o same is first = subst (λ x. Inserts key m c r x m) (sym is) (subst (λ j. First (insert_rules key m c j) (Some e)) same first, refl)
+
+  pub removes_not : (o : Result R ChainRefusal) → o ≡ Err e → First (find_rules key m c k) (Some e) → Removes key m c k o m
+  removes_not o is first = subst (λ x. Removes key m c k x m) (sym is) (first, refl)
+
+-- what the calls leave and answer where they are not refused
+module _ {R : Type 0} {N : ℕ} (n : ℕ) (b : Board R N) (kept : Kept n b) (key : R → ℕ) (c : ℕ) where
+  pub inserts : (r : R) (k at next : ℕ) (after : Board R N) → k ≡ key r → Seats key b c k (Ok (at, next)) → Hung b (c - 1) at next r after → Kept n after × Inserts key (stored b) c r (Ok tt) (stored after)
+  inserts r k at next after e s h =
+      let (w, none, l) = subst (λ (j : ℕ). Seats key b c j (Ok (at, next))) e s in
+      let (kept', made) = inserted n b kept c w key r at next l (spare_left n b kept key c (key r) none) after h in
+      let i : Inserts key (stored b) c r (Ok tt) (stored after) = (none, made) in (kept', i)
+
+  pub removes : (k at place : ℕ) (d : Slot R) (after : Board R N) → Seeks key b c k (Ok (at, place)) → Unhung b (c - 1) at place after → Kept n after × Removes key (stored b) c k (Ok (get_or (slots_of b) place d).item) (stored after)
+  removes k at place d after (w, f) h =
+      let (kept', made) = removed n b kept c w key k at place f after h in
+      let i : Removes key (stored b) c k (Ok (get_or (slots_of b) place d).item) (stored after) = (found_rules n b kept c w key k at place f, found_item n b kept c w key k at place f d, made) in (kept', i)
+
+  pub replaces : (r : R) (k at place : ℕ) (d : Slot R) (after : Board R N) → k ≡ key r → Seeks key b c k (Ok (at, place)) → Rewritten b place r after → Kept n after × Replaces key (stored b) c r (Ok (get_or (slots_of b) place d).item) (stored after)
+  replaces r k at place d after e s h =
+      let (w, f) = subst (λ (j : ℕ). Seeks key b c j (Ok (at, place))) e s in
+      let (kept', made) = replaced n b kept c w key at place r f after h in
+      let i : Replaces key (stored b) c r (Ok (get_or (slots_of b) place d).item) (stored after) = (found_rules n b kept c w key (key r) at place f, found_item n b kept c w key (key r) at place f d, made) in (kept', i)

@@ -8,6 +8,7 @@ use Rattle.chains.specs.Places.{nexts, values, places, records, held_from, rows_
 use Rattle.chains.specs.Records.{row}
 use Rattle.chains.specs.declared.board.Board.{Board}
 use Rattle.chains.specs.declared.slot.Slot.{Slot}
+use Rattle.chains.proofs.Lists.{link_at, item_at}
 use Rattle.chains.proofs.Outcomes.{places_none, chain_ends, row_is}
 use Rattle.chains.proofs.Searches.{starts, records_from, walk_short}
 use Rattle.chains.proofs.Trails.{places_are}
@@ -24,11 +25,14 @@ module _ {R : Type 0} (slots : List (Slot R)) (p : ℕ) (ends : Ends (nexts slot
       let (js, is, pos, below, t) = starts (nexts slots) p (places (nexts slots) p) ends some in
       is ∙ ap (λ ks. p ∷ ks) (sym (places_are (nexts slots) (get_or (nexts slots) p 0) js t (omega (arith, ap length is, walk_short (length (nexts slots)) (nexts slots) p))))
 
-  pub walk_ends : Ends (nexts slots) (get_or (nexts slots) p 0)
-  walk_ends = (subst (Trail (nexts slots) p) onward ends).3
+  pub walk_ends : (d : Slot R) → Ends (nexts slots) (get_or slots p d).next
+  walk_ends d = subst (Ends (nexts slots)) (sym (link_at slots p d walk_below)) (subst (Trail (nexts slots) p) onward ends).3
 
-  pub walk_next : (r : R) (q : ℕ) → records (values slots) (p ∷ []) ≡ r ∷ [] → q ≡ get_or (nexts slots) p 0 → held_from slots p ≡ r ∷ held_from slots q
-  walk_next r q here next = ap (records (values slots)) onward ∙ records_from (values slots) p (places (nexts slots) (get_or (nexts slots) p 0)) r here ∙ ap (λ j. r ∷ held_from slots j) (sym next)
+  pub walk_next : (d e : Slot R) → held_from slots p ≡ (get_or slots p e).item ∷ held_from slots (get_or slots p d).next
+  walk_next d e =
+      ap (records (values slots)) onward
+      ∙ records_from (values slots) p (places (nexts slots) (get_or (nexts slots) p 0)) (get_or slots p e).item (item_at slots p e walk_below)
+      ∙ ap (λ j. (get_or slots p e).item ∷ held_from slots j) (sym (link_at slots p d walk_below))
 
 -- where a walk along a chain begins, and what it has before it
 pub begun_ends : {R : Type 0} {N : ℕ} (n : ℕ) (b : Board R N) (c : ℕ) (o : Option ℕ) → Kept n b → Begins b.heads c o → Ends (nexts (slots_of b)) (unwrap_or o 0)

@@ -1,11 +1,13 @@
 -- What lies in lent slots. Assumes nothing.
-use Rattle.std.specs.Prelude.{◌≡◌, ℕ, ◌+◌, ◌-◌, List, ◌∷◌, length, Some, None, Option, slice_index, slice_set}
+use Rattle.std.specs.Prelude.{◌≡◌, ℕ, ◌+◌, ◌-◌, List, ◌∷◌, length, Some, None, Ok, Err, Option, Result, slice_index, slice_set}
 use Rattle.limits.specs.Ranges.{Within}
-use Rattle.chains.specs.Calls.{Content}
+use Rattle.limits.specs.Refusals.{First}
+use Rattle.chains.specs.Calls.{Content, find_rules, insert_rules}
 use Rattle.chains.specs.Places.{Sound, nexts, values, rows_of}
 use Rattle.chains.specs.Records.{total}
-use Rattle.chains.specs.Steps.{relinked, retopped}
+use Rattle.chains.specs.Steps.{Found, Located, UpTo, relinked, retopped}
 use Rattle.chains.specs.declared.board.Board.{Board}
+use Rattle.chains.specs.declared.slot.ChainRefusal.{ChainRefusal}
 use Rattle.chains.specs.declared.slot.Slot.{Slot}
 
 -- the slots of a board
@@ -26,6 +28,16 @@ pub record Kept {R : Type 0} {N : ℕ} (n : ℕ) (b : Board R N) : Type 0 where
 abbrev pub Begins : List ℕ → ℕ → Option ℕ → Type 0
 Begins heads c (Some p) = Within 1 (length heads) c × (p ≡ slice_index heads (c - 1))
 Begins heads c None = Within 1 (length heads) c → ⊥
+
+-- where the first record of a chain stands that has the key k, after which place, or why there is none
+abbrev pub Seeks : {R : Type 0} {N : ℕ} → (R → ℕ) → Board R N → ℕ → ℕ → Result (ℕ × ℕ) ChainRefusal → Type 0
+Seeks key b c k (Ok s) = Within 1 (length b.heads) c × Found key k (nexts (slots_of b)) (values (slots_of b)) (slice_index b.heads (c - 1)) s.0 s.1
+Seeks key b c k (Err e) = First (find_rules key (stored b) c k) (Some e)
+
+-- where a record of the key k goes into a chain, after which place and before which, or why it is refused
+abbrev pub Seats : {R : Type 0} {N : ℕ} → (R → ℕ) → Board R N → ℕ → ℕ → Result (ℕ × ℕ) ChainRefusal → Type 0
+Seats key b c k (Ok s) = Within 1 (length b.heads) c × First (insert_rules key (stored b) c k) None × Located (UpTo k) key (nexts (slots_of b)) (values (slots_of b)) (slice_index b.heads (c - 1)) s.0 s.1
+Seats key b c k (Err e) = First (insert_rules key (stored b) c k) (Some e)
 
 -- another slot follows the one at a place; nothing else is changed
 pub record Relinked {R : Type 0} {N : ℕ} (b : Board R N) (place next : ℕ) (after : Board R N) : Type 0 where

@@ -54,11 +54,6 @@ abbrev pub Replaces : {R : Type 0} → (R → ℕ) → Content R → ℕ → R �
 Replaces key m c r (Ok old) after = First (find_rules key m c (key r)) None × FirstWith key (key r) (row m.rows c) old × (after ≡ with_row m c (replace key r (row m.rows c)))
 Replaces key m c r (Err e) after = First (find_rules key m c (key r)) (Some e) × (after ≡ m)
 
--- one step along a chain: the next record, with those left then, or the end
-abbrev pub Advances : {R : Type 0} → List R → Option R → List R → Type 0
-Advances rs (Some r) rest = rs ≡ r ∷ rest
-Advances rs None rest = (rs ≡ []) × (rest ≡ [])
-
 -- n chains with no record, over so many slots, of which the first stays empty
 abbrev pub no_records : {R : Type 0} → ℕ → ℕ → Content R
 no_records n slots = record { rows = replicate n []; room = slots - 1 }

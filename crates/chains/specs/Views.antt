@@ -7,7 +7,7 @@ use Rattle.chains.specs.declared.chains.Chains.{Chains}
 use Rattle.chains.specs.declared.walk.Walk.{Walk}
 
 -- WHAT CHAINS STAND FOR
-abbrev pub content : {R : Type 0} {N : ℕ} → Chains R N → Content R
+abbrev pub content : {R : Type 0} {N : ℕ} {keyed : _} → Chains R N keyed → Content R
 content c = stored c.board
 
 -- the records that a walk has still to come to

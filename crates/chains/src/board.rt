@@ -1,13 +1,109 @@
-//! The lent slots, with no claim about them.
+//! The lent slots with the chains in them, and the steps that move a slot from one chain to another.
 
-use crate::slot::Slot;
+ghost use Rattle.std.specs.Prelude.{◌<◌, length};
+ghost use Rattle.chains.specs.Boards.{Begins, Hung, Kept, Relinked, Rewritten, Seats, Seeks, Unhung, slots_of};
 
-/// Lent slots with the chains in them: where each chain begins, where the spare slots begin, and how many records
-/// stand. Nothing is claimed of a board; what holds of it is said by the calls that take it.
+use crate::slot::{ChainRefusal, Keyed, Slot};
+use crate::steps::{gap_for, place_of};
+
+// Lent slots with the chains in them: where each chain begins, where the spare slots begin, and how many records
+// stand. Nothing is claimed of a board; what holds of it is said by `Chains`.
 #[derive(Drop)]
-pub struct Board<'a, R: Copy, const N: usize> {
+pub(crate) struct Board<'a, R: Copy, const N: usize> {
     pub(crate) slots: &'a mut [Slot<R>],
     pub(crate) heads: [usize; N],
     pub(crate) spare: usize,
     pub(crate) count: usize,
+}
+
+impl<R: Copy, const N: usize> Board<'_, R, N> {
+    // Where a chain begins, if there is a chain of that number.
+    pub(crate) fn first_of(&self, chain: u32) -> Option<usize>
+        ensures { Begins self.now.heads chain result }
+    {
+        let place = chain.checked_sub(1)?;
+        self.heads.get(place as usize).copied()
+    }
+
+    // Another slot follows.
+    fn relink(&mut self, place: usize, next: usize)
+        requires { place < length (slots_of self.old) }
+        ensures { Relinked self.old place next self.new }
+    {
+        self.slots[place].next = next;
+    }
+
+    // Another record in the slot.
+    pub(crate) fn rewrite(&mut self, place: usize, item: R)
+        requires { place < length (slots_of self.old) }
+        ensures { Rewritten self.old place item self.new }
+    {
+        self.slots[place].item = item;
+    }
+
+    // The first spare slot takes the record and is linked in after the place `at` of the chain, or first.
+    pub(crate) fn link_in(&mut self, chain: usize, at: usize, next: usize, item: R)
+        requires chained { chain < length self.old.heads }
+        requires spare { self.old.spare < length (slots_of self.old) }
+        requires place { at < length (slots_of self.old) }
+        requires room { self.old.count < length (slots_of self.old) }
+        ensures { Hung self.old chain at next item self.new }
+    {
+        let place = self.spare;
+        self.spare = self.slots[place].next;
+        self.relink(place, next);
+        self.rewrite(place, item);
+        if at == 0 {
+            self.heads[chain] = place;
+        } else {
+            self.relink(at, place);
+        }
+        self.count += 1;
+    }
+
+    // The slot at `place`, which stands after the place `at` of the chain, or first, becomes the first spare slot.
+    pub(crate) fn link_out(&mut self, chain: usize, at: usize, place: usize)
+        requires chained { chain < length self.old.heads }
+        requires place { place < length (slots_of self.old) }
+        requires before { at < length (slots_of self.old) }
+        requires some { 0 < self.old.count }
+        ensures { Unhung self.old chain at place self.new }
+    {
+        let rest = self.slots[place].next;
+        let spare = self.spare;
+        if at == 0 {
+            self.heads[chain] = rest;
+        } else {
+            self.relink(at, rest);
+        }
+        self.relink(place, spare);
+        self.spare = place;
+        self.count -= 1;
+    }
+}
+
+impl<R: Keyed, const N: usize> Board<'_, R, N> {
+    // Where the record of a chain stands that has the key, after the place before it, or 0.
+    pub(crate) fn seek(&self, chain: u32, key: u32) -> Result<(usize, usize), ChainRefusal>
+        requires { Kept N self.now }
+        ensures { Seeks R.keyed self.now chain key result }
+    {
+        let first = self.first_of(chain).ok_or(ChainRefusal::NoChain)?;
+        place_of(self.slots, first, key).ok_or(ChainRefusal::Absent)
+    }
+
+    // Where a record of the key goes into a chain: after which place, or 0, and before which, or 0.
+    pub(crate) fn seat(&self, chain: u32, key: u32) -> Result<(usize, usize), ChainRefusal>
+        requires { Kept N self.now }
+        ensures { Seats R.keyed self.now chain key result }
+    {
+        let first = self.first_of(chain).ok_or(ChainRefusal::NoChain)?;
+        if place_of(self.slots, first, key).is_some() {
+            return Err(ChainRefusal::Present);
+        }
+        if self.spare == 0 {
+            return Err(ChainRefusal::Full);
+        }
+        Ok(gap_for(self.slots, first, key))
+    }
 }

@@ -5,21 +5,15 @@
 mod board;
 mod calls;
 mod chains;
-mod links;
 mod making;
 mod slot;
 mod steps;
-mod stop;
 mod walk;
 mod walking;
 
-pub use board::Board;
 pub use chains::Chains;
-pub use links::{find_in, insert_in, remove_in, replace_in};
-pub use making::board_over;
 pub use slot::{ChainRefusal, Keyed, Slot};
 pub use walk::Walk;
-pub use walking::{count_of, room_of, walk_in};
 
 #[cfg(test)]
 mod tests {
@@ -64,10 +58,10 @@ mod tests {
     fn walked(rt: &impl Abort, chains: &Chains<'_, Fault, 2>, chain: u32, wanted: &[(u32, u32)]) {
         let mut walk = chains.walk(chain);
         for (flow, count) in wanted {
-            assert_eq!(rt; walk.step(), Some(of_flow(*flow, *count)));
+            assert_eq!(rt; walk.next(), Some(of_flow(*flow, *count)));
         }
-        assert_eq!(rt; walk.step(), None);
-        assert_eq!(rt; walk.step(), None);
+        assert_eq!(rt; walk.next(), None);
+        assert_eq!(rt; walk.next(), None);
     }
 
     // The two chains have these records and no more, and no other chain has any.

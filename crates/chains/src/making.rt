@@ -1,7 +1,6 @@
 //! Newly made chains.
 
 ghost use Rattle.std.specs.Prelude.{◌≡◌, ℕ, ◌<◌, length, slice_index};
-ghost use Rattle.chains.specs.Boards.{Kept, stored};
 ghost use Rattle.chains.specs.Calls.{no_records};
 ghost use Rattle.chains.specs.Laws.{ChainLaws};
 ghost use Rattle.chains.specs.Places.{nexts};
@@ -32,23 +31,8 @@ fn clear<R: Copy>(slots: &mut [Slot<R>])
     ensures { (k : ℕ) → k < length slots.old → slice_index (nexts slots.new) k ≡ blank (length slots.old) k }
 {
     let len = slots.len();
-    for place in 0..len {
-        slots[place].next = blank_link(place, len);
-    }
-}
-
-/// A board of N chains with no record, whatever the slots held before.
-pub fn board_over<R: Keyed, const N: usize>(slots: &mut [Slot<R>]) -> Board<'_, R, N>
-    ensures kept { Kept N result }
-    ensures empty { stored result ≡ no_records N (length slots.old) }
-{
-    clear(slots);
-    let spare = first_spare(slots.len());
-    Board {
-        slots,
-        heads: [0; N],
-        spare,
-        count: 0,
+    for (place, slot) in slots.iter_mut().enumerate() {
+        slot.next = blank_link(place, len);
     }
 }
 
@@ -58,8 +42,15 @@ impl<'a, R: Keyed, const N: usize> Chains<'a, R, N> {
         ensures empty { content result ≡ no_records N (length slots.old) }
         ensures laws { ChainLaws R.Keyed.keyed }
     {
+        clear(slots);
+        let spare = first_spare(slots.len());
         Chains {
-            board: board_over(slots),
+            board: Board {
+                slots,
+                heads: [0; N],
+                spare,
+                count: 0,
+            },
         }
     }
 }

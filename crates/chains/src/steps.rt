@@ -1,110 +1,51 @@
-//! The steps of a call: reading and writing single slots, and the lookup along a chain.
+//! The lookup along a chain. A place is the index of a slot, and 0 none: a link is all that a lent slot has for it.
 
-ghost use Rattle.std.specs.Prelude.{◌≡◌, ◌<◌, [], ◌∷◌, length, Decides, slice_index};
-ghost use Rattle.chains.specs.Boards.{Relinked, Rewritten, slots_of};
-ghost use Rattle.chains.specs.Places.{Ends, nexts, records, values};
-ghost use Rattle.chains.specs.Steps.{Located, Passes};
+ghost use Rattle.chains.specs.Places.{Ends, nexts, values};
+ghost use Rattle.chains.specs.Steps.{FindsPlace, Located, UpTo};
 
-use crate::board::Board;
 use crate::slot::{Keyed, Slot};
-use crate::stop::Stop;
 
-// The place of the slot that follows.
-pub(crate) fn next_of<R: Copy>(slots: &[Slot<R>], place: usize) -> usize
-    requires { place < length slots.now }
-    ensures { result ≡ slice_index (nexts slots.now) place }
-{
-    slots[place].next
-}
-
-// The record of a slot.
-pub(crate) fn record_of<R: Copy>(slots: &[Slot<R>], place: usize) -> R
-    requires { place < length slots.now }
-    ensures { records (values slots.now) (place ∷ []) ≡ result ∷ [] }
-{
-    slots[place].item
-}
-
-// Another slot follows.
-pub(crate) fn relink<R: Copy, const N: usize>(
-    board: &mut Board<'_, R, N>,
-    place: usize,
-    next: usize,
-)
-    requires { place < length (slots_of board.old) }
-    ensures { Relinked board.old place next board.new }
-{
-    board.slots[place].next = next;
-}
-
-// Another record in the slot.
-pub(crate) fn rewrite<R: Copy, const N: usize>(board: &mut Board<'_, R, N>, place: usize, item: R)
-    requires { place < length (slots_of board.old) }
-    ensures { Rewritten board.old place item board.new }
-{
-    board.slots[place].item = item;
-}
-
-impl Stop {
-    // Whether a lookup for the key goes on past a record.
-    fn passes(self, own: u32, key: u32) -> bool
-        ensures { Decides result (Passes self own key) }
-    {
-        match self {
-            Stop::AtKey => own != key,
-            Stop::PastKey => own <= key,
-        }
-    }
-}
-
-// Where a lookup along the chain from `first` stops: the place before, or 0, and the place itself, or 0.
-pub(crate) fn locate<R: Keyed>(
+// Where a lookup stops that goes along the chain from `first` past the keys that the test passes: the place before,
+// or 0, and the place itself, or 0.
+fn locate<R: Keyed, F: Fn(u32) -> bool>(
     slots: &[Slot<R>],
     first: usize,
-    key: u32,
-    stop: Stop,
+    passes: F,
 ) -> (usize, usize)
-    requires { Ends (nexts slots.now) first }
-    ensures { Located stop R.keyed key (nexts slots.now) (values slots.now) first result.0 result.1 }
+    requires ends { Ends (nexts slots.now) first }
+    requires callable { F.IsAlwaysCallable passes }
+    ensures { Located (F.post passes) R.keyed (nexts slots.now) (values slots.now) first result.0 result.1 }
 {
     let mut at = 0;
     let mut next = first;
     while next != 0 {
-        let own = record_of(slots, next).key();
-        if !stop.passes(own, key) {
+        let slot = slots[next];
+        if !passes(slot.item.key()) {
             break;
         }
         at = next;
-        next = next_of(slots, next);
+        next = slot.next;
     }
     (at, next)
 }
 
-// The same on a board.
-pub(crate) fn locate_on<R: Keyed, const N: usize>(
-    board: &Board<'_, R, N>,
+// Where the first record of the chain from `first` stands that has the key, after the place before it, or 0.
+pub(crate) fn place_of<R: Keyed>(
+    slots: &[Slot<R>],
     first: usize,
     key: u32,
-    stop: Stop,
-) -> (usize, usize)
-    requires { Ends (nexts (slots_of board.now)) first }
-    ensures { Located stop R.keyed key (nexts (slots_of board.now)) (values (slots_of board.now)) first result.0 result.1 }
+) -> Option<(usize, usize)>
+    requires { Ends (nexts slots.now) first }
+    ensures { FindsPlace R.keyed key (nexts slots.now) (values slots.now) first result }
 {
-    locate(board.slots, first, key, stop)
+    let (at, place) = locate(slots, first, |own| own != key);
+    if place == 0 { None } else { Some((at, place)) }
 }
 
-// The place of the slot that follows, on a board.
-pub(crate) fn next_on<R: Copy, const N: usize>(board: &Board<'_, R, N>, place: usize) -> usize
-    requires { place < length (slots_of board.now) }
-    ensures { result ≡ slice_index (nexts (slots_of board.now)) place }
+// Where a record of the key goes into the chain from `first`: after which place, or 0, and before which, or 0.
+pub(crate) fn gap_for<R: Keyed>(slots: &[Slot<R>], first: usize, key: u32) -> (usize, usize)
+    requires { Ends (nexts slots.now) first }
+    ensures { Located (UpTo key) R.keyed (nexts slots.now) (values slots.now) first result.0 result.1 }
 {
-    next_of(board.slots, place)
-}
-
-// The record of a slot, on a board.
-pub(crate) fn record_on<R: Copy, const N: usize>(board: &Board<'_, R, N>, place: usize) -> R
-    requires { place < length (slots_of board.now) }
-    ensures { records (values (slots_of board.now)) (place ∷ []) ≡ result ∷ [] }
-{
-    record_of(board.slots, place)
+    locate(slots, first, |own| own <= key)
 }

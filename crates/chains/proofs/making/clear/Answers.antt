@@ -12,4 +12,4 @@ loop-place-preserved g c =
     let place = c.loop-place.place in
     let f : ℕ → ℕ = λ k. blank (length c.args.slots.now) k in
     let less : place < length (nexts slots) = omega (arith, length-map slots (λ s. s.next)) in
-    λ k l. ap (λ ns. get_or ns k 0) (map-set (λ s. s.next) slots place _ ∙ ap (set (nexts slots) place) c.blank_link.ensures) ∙ fill_by_more f (nexts slots) place 0 less c.loop-place.invariant k l
+    λ k l. ap (λ ns. get_or ns k 0) (map-set (λ s. s.next) slots place _ ∙ ap (set (nexts slots) place) c.blank_link-slot.ensures) ∙ fill_by_more f (nexts slots) place 0 less c.loop-place.invariant k l

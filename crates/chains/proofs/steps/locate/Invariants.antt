@@ -4,7 +4,7 @@ use Rattle.chains.specs.Steps.{Reached}
 use Rattle.chains.proofs.steps.locate.Given as goal
 
 abbrev pub invariant-loop-next : goal.invariant-loop-next
-invariant-loop-next g l = Reached l.stop g.R.Keyed.keyed l.key (nexts l.slots) (values l.slots) l.first l.at l.next
+invariant-loop-next g l = Reached (goal.F-post g l.passes) g.R.Keyed.keyed (nexts l.slots) (values l.slots) l.first l.at l.next
 
 abbrev pub decreases-loop-next : goal.decreases-loop-next
 decreases-loop-next g l = length (places (nexts l.slots) l.next)
