@@ -4,7 +4,7 @@ use Rattle.book.specs.Empty.{empty_formed, empty_total}
 use Rattle.book.specs.Bare.{empty}
 use Rattle.book.specs.Meanings.{Formed, total}
 use Rattle.book.specs.Spans.{Free}
-use Rattle.std.proofs.lemmas.List.{get_or-drop}
+use Rattle.std.proofs.lemmas.List.{get_or-drop, length-replicate}
 use Rattle.grid_book.specs.declared.cell.Cell.{Cell}
 use Rattle.grid_book.specs.declared.cell.Cell.TheVariants.{Free as free_cell}
 use Rattle.grid_book.specs.Cells.{is_free, begun, begins, cell_at, spans_from, Marked}
@@ -14,6 +14,11 @@ use Rattle.grid_book.specs.Made.{Sized}
 -- every cell is free
 abbrev pub AllFree : List Cell → Type 0
 AllFree cells = (t : ℕ) → cell_at cells t ≡ free_cell
+
+all_free : (n : ℕ) → AllFree (replicate n free_cell)
+all_free zero t = refl
+all_free (suc n) zero = refl
+all_free (suc n) (suc t) = all_free n t
 
 free_drop : (n : ℕ) (cells : List Cell) → AllFree cells → AllFree (drop n cells)
 free_drop n cells h t = get_or-drop n cells t free_cell ∙ h (n + t)
@@ -40,13 +45,13 @@ free_marked H place cells h t l =
     (λ _. subst (λ ss. Free H ss t) (sym (free_spans 0 (cells_of H place cells) row)) tt, λ _. ap is_free (row t))
 
 -- a grid of free cells is sound, and stands for the empty book
-pub free_means : (cycle links room : ℕ) (cells : List Cell) → AllFree cells → means cycle links room cells ≡ empty cycle links room
-free_means cycle links room cells h = ap (λ rs. record { cycle = cycle; links = links; room = room; rows = rs }) (free_rows cycle links cells h)
+pub free_means : (n cycle links room : ℕ) → means cycle links room (replicate n free_cell) ≡ empty cycle links room
+free_means n cycle links room = ap (λ rs. record { cycle = cycle; links = links; room = room; rows = rs }) (free_rows cycle links (replicate n free_cell) (all_free n))
 
-pub free_sound : (cycle links room : ℕ) (cells : List Cell) → Sized (length cells) cycle links room → AllFree cells → Sound cycle links room 0 cells
-free_sound cycle links room cells sized h = record {
-  sized = sized;
-  formed = subst Formed (sym (free_means cycle links room cells h)) (empty_formed cycle links room);
-  counted = sym (ap total (free_rows cycle links cells h) ∙ empty_total links);
-  marked = λ place _. free_marked cycle place cells h;
+pub free_sound : (n cycle links room : ℕ) → Sized n cycle links room → Sound cycle links room 0 (replicate n free_cell)
+free_sound n cycle links room sized = record {
+  sized = subst (λ k. Sized k cycle links room) (sym (length-replicate n free_cell)) sized;
+  formed = subst Formed (sym (free_means n cycle links room)) (empty_formed cycle links room);
+  counted = sym (ap total (free_rows cycle links (replicate n free_cell) (all_free n)) ∙ empty_total links);
+  marked = λ place _. free_marked cycle place (replicate n free_cell) (all_free n);
 }

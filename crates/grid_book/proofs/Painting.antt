@@ -54,7 +54,7 @@ painted_first H start ticks first more row after begins some long p =
 
 free_begun : (c : Cell) → is_free c ≡ true → begun c ≡ None
 free_begun free_cell e = refl
-free_begun (First ticks flow) e = absurd (false≢true e)
+free_begun (First h) e = absurd (false≢true e)
 free_begun Further e = refl
 
 none_begun : (ss : List Span) (t : ℕ) (o : Option Holding) → Holds ss t o → ((h : Holding) → In (span t h.ticks h.flow) ss → ⊥) → o ≡ None
@@ -100,52 +100,52 @@ module _ (H start ticks : ℕ) (first further : Cell) (before after : List Cell)
       (cases_lt (offset H start i) ticks))
       (cases_eq i start))
 
-module _ (H start ticks flow : ℕ) (before after : List Cell) (begins : start < H) (some : 0 < ticks) (long : length before ≡ H) (marked : Marked H before) where
-  module _ (p : Painted H start ticks (First ticks flow) Further before after) (clear : Clashes H (spans before) (span start ticks flow) → ⊥) where
-    free_before : (t : ℕ) → t < H → offset H start t < ticks → begun (cell_at before t) ≡ None
+module _ (H start : ℕ) (h : Holding) (before after : List Cell) (begins : start < H) (some : 0 < h.ticks) (long : length before ≡ H) (marked : Marked H before) where
+  module _ (p : Painted H start h.ticks (First h) Further before after) (clear : Clashes H (spans before) (span start h.ticks h.flow) → ⊥) where
+    free_before : (t : ℕ) → t < H → offset H start t < h.ticks → begun (cell_at before t) ≡ None
     free_before t l low = free_begun (cell_at before t) ((marked t l).1 (⊎_elim (λ free. free) (λ taken. absurd (clear (t, l, low, taken))) (free_or_not H (spans before) t)))
 
     -- the cells of a booking add it
-    pub booked_spans : spans after ≡ insert (span start ticks flow) (spans before)
+    pub booked_spans : spans after ≡ insert (span start h.ticks h.flow) (spans before)
     booked_spans =
-        spans_painted H start ticks (First ticks flow) Further before after begins some long p refl (λ t l _ low. free_before t l low)
-        ∙ first_inserts before start (First ticks flow) (record { ticks = ticks; flow = flow }) (omega arith) (free_before start begins (omega (arith, offset_start H start begins))) refl
+        spans_painted H start h.ticks (First h) Further before after begins some long p refl (λ t l _ low. free_before t l low)
+        ∙ first_inserts before start (First h) h (omega arith) (free_before start begins (omega (arith, offset_start H start begins))) refl
 
     pub booked_marked : Marked H after
     booked_marked t l =
-        let own = insert_covers_its_own H (span start ticks flow) (spans before) t in
+        let own = insert_covers_its_own H (span start h.ticks h.flow) (spans before) t in
         subst (λ ss. Decides (is_free (cell_at after t)) (Free H ss t)) (sym booked_spans)
         (⊎_elim
         (λ low.
-        let taken : is_free (cell_at after t) ≡ false = at_ticks H start ticks (First ticks flow) Further before after begins some long p (λ c. is_free c ≡ false) refl refl t l low in
+        let taken : is_free (cell_at after t) ≡ false = at_ticks H start h.ticks (First h) Further before after begins some long p (λ c. is_free c ≡ false) refl refl t l low in
         (λ e. absurd (false≢true (sym taken ∙ e)), λ free. absurd ((own.0 free).0 low)))
         (λ past.
-        subst (λ c. Decides (is_free c) (Free H (insert (span start ticks flow) (spans before)) t)) (sym (p.outside t l past))
+        subst (λ c. Decides (is_free c) (Free H (insert (span start h.ticks h.flow) (spans before)) t)) (sym (p.outside t l past))
         (Decides-like _ (λ free. own.1 (λ covers. omega arith, free)) (λ free. (own.0 free).1) (marked t l)))
-        (cases_lt (offset H start t) ticks))
+        (cases_lt (offset H start t) h.ticks))
 
-  module _ (p : Painted H start ticks free_cell free_cell before after) (orderly : Orderly H (spans before)) (there : In (span start ticks flow) (spans before)) where
-    further_before : (t : ℕ) → t < H → 0 < offset H start t → offset H start t < ticks → begun (cell_at before t) ≡ None
+  module _ (p : Painted H start h.ticks free_cell free_cell before after) (orderly : Orderly H (spans before)) (there : In (span start h.ticks h.flow) (spans before)) where
+    further_before : (t : ℕ) → t < H → 0 < offset H start t → offset H start t < h.ticks → begun (cell_at before t) ≡ None
     further_before t l pos low =
         none_begun (spans before) t (begun (cell_at before t)) (holds_at before t)
-        (λ h other.
-        let own = own_start H (span t h.ticks h.flow) (fits_in H (spans before) _ orderly other) in
+        (λ g other.
+        let own = own_start H (span t g.ticks g.flow) (fits_in H (spans before) _ orderly other) in
         let same : t ≡ start = ap (λ s. s.start) (covers_once H (spans before) _ _ t orderly l other there own low) in
         omega (arith, ap (offset H start) same, offset_start H start begins))
 
     -- free cells over a booking take it away
     pub freed_spans : spans after ≡ without start (spans before)
     freed_spans =
-        spans_painted H start ticks free_cell free_cell before after begins some long p refl further_before
+        spans_painted H start h.ticks free_cell free_cell before after begins some long p refl further_before
         ∙ other_removes before start free_cell (omega arith) refl
 
     pub freed_marked : Marked H after
     freed_marked t l =
-        let own = release_frees_its_own H (spans before) (span start ticks flow) t orderly there l in
+        let own = release_frees_its_own H (spans before) (span start h.ticks h.flow) t orderly there l in
         subst (λ ss. Decides (is_free (cell_at after t)) (Free H ss t)) (sym freed_spans)
         (⊎_elim
-        (λ low. (λ e. own.1 (inr low), λ free. at_ticks H start ticks free_cell free_cell before after begins some long p (λ c. is_free c ≡ true) refl refl t l low))
+        (λ low. (λ e. own.1 (inr low), λ free. at_ticks H start h.ticks free_cell free_cell before after begins some long p (λ c. is_free c ≡ true) refl refl t l low))
         (λ past.
         subst (λ c. Decides (is_free c) (Free H (without start (spans before)) t)) (sym (p.outside t l past))
         (Decides-like _ (λ free. own.1 (inl free)) (λ free. ⊎_elim (λ f. f) (λ covers. absurd (omega arith)) (own.0 free)) (marked t l)))
-        (cases_lt (offset H start t) ticks))
+        (cases_lt (offset H start t) h.ticks))

@@ -9,6 +9,7 @@ use Rattle.grid_book.specs.declared.cell.Cell.{Cell}
 use Rattle.grid_book.specs.Cells.{spans}
 use Rattle.grid_book.specs.Grids.{cells_of, rows_of, RowPainted}
 use Rattle.grid_book.specs.Rows.{Painted}
+use Rattle.limits.specs.Ranges.{Within}
 
 -- a row as far as there are cells
 pub clipped : (b H from to : ℕ) (xs : List Cell) → from ≡ min b (length xs) → to ≡ min (from + H) (length xs) → take (to - from) (drop from xs) ≡ take H (drop b xs)
@@ -76,6 +77,10 @@ module _ (H place : ℕ) (cells row : List Cell) (inside : place * H + H ≤ len
 
 pub cells_long : (H place : ℕ) (cells : List Cell) → place * H + H ≤ length cells → length (cells_of H place cells) ≡ H
 cells_long H place cells inside = length-take-le H (drop (place * H) cells) (omega (arith, length-drop (place * H) cells))
+
+-- in a grid of whole rows the row of each link is whole
+pub row_whole : (H links link : ℕ) (cells : List Cell) → Within 1 links link → links * H ≤ length cells → (link - 1) * H + H ≤ length cells
+row_whole H links link cells there enough = omega (arith, mul-le (suc (link - 1)) H links H (omega (arith, there.least, there.most)) (omega arith), suc-mul (link - 1) H)
 
 -- one row that is painted within the grid; k is how long the row is
 pub row_written : (H place start ticks : ℕ) (first further : Cell) (cells row : List Cell) → place * H + H ≤ length cells → (k : ℕ) → k ≡ H → Painted (length (take k (drop (place * H) cells))) start ticks first further (take k (drop (place * H) cells)) row → RowPainted H place start ticks first further cells (put_mid (place * H) k cells row)

@@ -8,13 +8,13 @@ use Rattle.grid_book.specs.declared.cell.Cell.TheVariants.{Free as free_cell, Fi
 -- whether a cell is free
 abbrev pub is_free : Cell → Bool
 is_free free_cell = true
-is_free (First ticks flow) = false
+is_free (First h) = false
 is_free Further = false
 
 -- the booking whose first tick a cell is
 abbrev pub begun : Cell → Option Holding
 begun free_cell = None
-begun (First ticks flow) = Some (record { ticks = ticks; flow = flow })
+begun (First h) = Some h
 begun Further = None
 
 -- the cell of a tick; one that is not there is free

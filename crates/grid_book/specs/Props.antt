@@ -1,12 +1,11 @@
--- That a grid is sound has one proof at most. Assumes nothing.
+-- What holds of a grid and of its rows has one proof at most. Assumes nothing.
 use Rattle.std.specs.Prelude.{◌≡◌, ℕ, Bool, true, List, Decides}
 use Rattle.std.proofs.Math.Bool.{Bool-set}
-use Rattle.std.proofs.Math.Logic.{∥∥₁_elim}
 use Rattle.std.proofs.Math.Bridge.{le_prop}
 use Rattle.std.proofs.Math.Nat.{ℕ_set}
 use Rattle.book.proofs.Props.{within_prop, free_prop, formed_prop}
 use Rattle.grid_book.specs.declared.cell.Cell.{Cell}
-use Rattle.grid_book.specs.declared.grid.GridBook.{GridBook}
+use Rattle.grid_book.specs.Cells.{Marked}
 use Rattle.grid_book.specs.Grids.{Sound}
 use Rattle.grid_book.specs.Made.{Sized}
 
@@ -21,14 +20,13 @@ sized_prop a b = λ i. record {
   enough = λ h. le_prop (a.enough h) (b.enough h) i;
 }
 
-sound_prop : (cycle links room count : ℕ) (cells : List Cell) (a b : Sound cycle links room count cells) → a ≡ b
+pub marked_prop : (H : ℕ) (cells : List Cell) (a b : Marked H cells) → a ≡ b
+marked_prop H cells a b = λ i t l. decides_prop _ (free_prop _ _ t) (a t l) (b t l) i
+
+pub sound_prop : (cycle links room count : ℕ) (cells : List Cell) (a b : Sound cycle links room count cells) → a ≡ b
 sound_prop cycle links room count cells a b = λ i. record {
   sized = sized_prop a.sized b.sized i;
   formed = formed_prop _ a.formed b.formed i;
   counted = ℕ_set _ _ a.counted b.counted i;
-  marked = λ k h t l. decides_prop _ (free_prop _ _ t) (a.marked k h t l) (b.marked k h t l) i;
+  marked = λ k h. marked_prop _ _ (a.marked k h) (b.marked k h) i;
 }
-
--- every book in a grid is sound
-pub sound_of : (b : GridBook) → Sound b.cycle b.links b.room b.count b.grid.cells.now
-sound_of b = ∥∥₁_elim b.sound (sound_prop _ _ _ _ _) (λ s. s)

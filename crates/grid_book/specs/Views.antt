@@ -5,4 +5,4 @@ use Rattle.grid_book.specs.Grids.{means}
 
 -- the book that a book in a grid stands for, read off its cells
 abbrev pub meaning_of : GridBook → Meaning
-meaning_of b = means b.cycle b.links b.room b.grid.cells.now
+meaning_of b = means b.grid.extent.cycle b.grid.extent.links b.room b.grid.cells.now

@@ -1,7 +1,6 @@
 //! The calls of a book in a grid.
 
 ghost use Rattle.grid_book.specs.Views.{meaning_of};
-ghost use Rattle.grid_book.specs.Props.{sound_of};
 
 use crate::grid::GridBook;
 use book::{Book, BookRefusal, Holding};
@@ -9,14 +8,14 @@ use book::{Book, BookRefusal, Holding};
 impl Book for GridBook<'_> {
     ghost meaning = { meaning_of };
 
-    ghost formed = { λ b. (sound_of b).formed };
+    ghost formed = { λ b. b.sound.formed };
 
     fn cycle(&self) -> u32 {
-        self.cycle
+        self.grid.extent.cycle
     }
 
     fn links(&self) -> u32 {
-        self.links
+        self.grid.extent.links
     }
 
     fn room(&self) -> u32 {
@@ -24,40 +23,29 @@ impl Book for GridBook<'_> {
     }
 
     fn count(&self) -> u32 {
-        self.standing()
+        self.count
     }
 
     fn run(&self, link: u32, tick: u32) -> Result<(bool, u32), BookRefusal> {
-        match self.refusal(link, tick) {
-            Some(refusal) => Err(refusal),
-            None => Ok(self.run_at(link, tick)),
-        }
+        self.grid.extent.check_tick(link, tick)?;
+        Ok(self.row(link).run(tick))
     }
 
     fn holder(&self, link: u32, tick: u32) -> Result<Option<Holding>, BookRefusal> {
-        match self.refusal(link, tick) {
-            Some(refusal) => Err(refusal),
-            None => Ok(self.begun_on(link, tick)),
-        }
+        self.grid.extent.check_tick(link, tick)?;
+        Ok(self.row(link).begun_at(tick))
     }
 
     fn book(&mut self, link: u32, start: u32, ticks: u32, flow: u32) -> Result<(), BookRefusal> {
-        match self.booking_refusal(link, start, ticks, flow) {
-            Some(refusal) => Err(refusal),
-            None => {
-                self.add(link, start, ticks, flow);
-                Ok(())
-            }
-        }
+        let holding = Holding { ticks, flow };
+        self.check(link, start, holding)?;
+        self.add(link, start, holding);
+        Ok(())
     }
 
     fn release(&mut self, link: u32, start: u32) -> Result<u32, BookRefusal> {
-        match self.holder(link, start)? {
-            None => Err(BookRefusal::NoneBegins),
-            Some(holding) => {
-                self.remove(link, start, holding);
-                Ok(holding.ticks)
-            }
-        }
+        let holding = self.holder(link, start)?.ok_or(BookRefusal::NoneBegins)?;
+        self.remove(link, start, holding);
+        Ok(holding.ticks)
     }
 }

@@ -1,61 +1,36 @@
 //! The cells of a grid.
 
-ghost use Rattle.std.specs.Prelude.{◌≡◌, ◌+◌, ◌*◌, ◌<◌, ◌≤◌, length};
-ghost use Rattle.limits.specs.Ranges.{Within, cycle_max, link_max};
-ghost use Rattle.grid_book.specs.Grids.{cells_of, RowPainted};
+ghost use Rattle.std.specs.Prelude.{◌≡◌};
+ghost use Rattle.grid_book.specs.Cells.{begun, is_free};
 
-use crate::row::paint;
+use book::Holding;
 
 /// One tick of one link.
 #[derive(Clone, Copy)]
 pub enum Cell {
     /// The tick is free.
     Free,
-    /// The first tick of a booking.
-    First {
-        /// How many ticks the booking covers.
-        ticks: u32,
-        /// The flow that it is for.
-        flow: u32,
-    },
+    /// The first tick of a booking, with how long it lasts and for whom.
+    First(Holding),
     /// A further tick of a booking.
     Further,
 }
 
-// The lent cells, with no claim about them.
-#[derive(Drop)]
-pub(crate) struct Grid<'a> {
-    pub(crate) cells: &'a mut [Cell],
-}
-
-impl Grid<'_> {
-    // The row of the link at a place, as far as there are cells.
-    pub(crate) fn row(&self, place: u32, cycle: u32) -> &[Cell]
-        requires { (place < link_max) × (cycle ≤ cycle_max) }
-        ensures { result.now ≡ cells_of cycle place self.now.cells.now }
+impl Cell {
+    // Whether the tick is free.
+    pub(crate) fn is_free(self) -> bool
+        ensures { result ≡ is_free self }
     {
-        let len = self.cells.len();
-        let from = (place as usize * cycle as usize).min(len);
-        let to = (from + cycle as usize).min(len);
-        &self.cells[from..to]
+        matches!(self, Cell::Free)
     }
 
-    // Writes the cells of a booking on the link at a place.
-    pub(crate) fn paint(
-        &mut self,
-        place: u32,
-        cycle: u32,
-        start: u32,
-        ticks: u32,
-        first: Cell,
-        further: Cell,
-    )
-        requires whole { (place < link_max) × ((cycle ≤ cycle_max) × (place * cycle + cycle ≤ length self.old.cells.now)) }
-        requires ranges { (start < cycle) × (Within 1 cycle ticks) }
-        ensures { RowPainted cycle place start ticks first further self.old.cells.now self.new.cells.now }
+    // The booking whose first tick it is.
+    pub(crate) fn begun(self) -> Option<Holding>
+        ensures { result ≡ begun self }
     {
-        let from = place as usize * cycle as usize;
-        let to = from + cycle as usize;
-        paint(&mut self.cells[from..to], start, ticks, first, further);
+        match self {
+            Cell::First(holding) => Some(holding),
+            Cell::Free | Cell::Further => None,
+        }
     }
 }

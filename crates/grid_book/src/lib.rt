@@ -16,20 +16,17 @@ pub use grid::GridBook;
 #[cfg(test)]
 mod tests {
     use crate::{Cell, GridBook};
-    use book::{Book, BookRefusal};
+    use book::{Book, BookRefusal, Holding};
 
     // The number of a refusal, or 0.
     fn refused<T: Drop>(r: Result<T, BookRefusal>) -> u32 {
-        match r {
-            Ok(_) => 0,
-            Err(refusal) => refusal.number(),
-        }
+        r.err().map_or(0, BookRefusal::number)
     }
 
     // A booking over the end of the cycle, in cells that held something else before.
     #[test]
     fn over_the_end(rt: HostRuntime) {
-        let mut cells = [Cell::First { ticks: 3, flow: 9 }; 41];
+        let mut cells = [Cell::First(Holding { ticks: 3, flow: 9 }); 41];
         let mut book = GridBook::new(&mut cells, 2, 20, 2);
         assert_eq!(rt; book.count(), 0);
         assert!(rt; book.run(2, 19) == Ok((true, 20)));

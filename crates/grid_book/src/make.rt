@@ -1,48 +1,36 @@
 //! How a book in a grid is made.
 
-ghost use Rattle.std.specs.Prelude.{◌≡◌, ℕ, length};
+ghost use Rattle.std.specs.Prelude.{length};
 ghost use Rattle.book.specs.Bare.{empty};
-ghost use Rattle.grid_book.specs.Cells.{cell_at};
 ghost use Rattle.grid_book.specs.Made.{Made, Sized};
 ghost use Rattle.grid_book.specs.Views.{meaning_of};
-ghost use Rattle.grid_book.specs.declared.cell.Cell.TheVariants.{Free};
 
-use crate::cell::{Cell, Grid};
-use crate::grid::GridBook;
-use limits::{Quantity, ROOM_MAX};
+use crate::cell::Cell;
+use crate::grid::{Grid, GridBook};
+use book::Extent;
+use limits::ROOM_MAX;
 
 // What a book is made for.
 #[derive(Clone, Copy)]
 struct Size {
-    cycle: u32,
-    links: u32,
+    extent: Extent,
     room: u32,
 }
 
 // The size of the book that so many cells give.
 fn granted(cells: usize, room: u32, cycle: u32, links: u32) -> Size
-    ensures made { Made cells room cycle links (empty result.cycle result.links result.room) }
-    ensures sized { Sized cells result.cycle result.links result.room }
+    ensures made { Made cells room cycle links (empty result.extent.cycle result.extent.links result.room) }
+    ensures sized { Sized cells result.extent.cycle result.extent.links result.room }
 {
-    if !Quantity::Cycle.has(cycle) || !Quantity::LinkCount.has(links) {
+    let Some(extent) = Extent::asked(cycle, links) else {
         return Size {
-            cycle: 1,
-            links: 0,
+            extent: Extent::LEAST,
             room: 0,
         };
-    }
+    };
     let enough = links as usize * cycle as usize <= cells;
     let room = if room <= ROOM_MAX && enough { room } else { 0 };
-    Size { cycle, links, room }
-}
-
-// Frees every cell.
-fn clear(cells: &mut [Cell])
-    ensures { (t : ℕ) → cell_at cells.new t ≡ Free }
-{
-    for cell in cells.iter_mut() {
-        *cell = Cell::Free;
-    }
+    Size { extent, room }
 }
 
 impl<'a> GridBook<'a> {
@@ -53,19 +41,10 @@ impl<'a> GridBook<'a> {
         ensures { Made (length cells.old) room cycle links (meaning_of result) }
     {
         let size = granted(cells.len(), room, cycle, links);
-        GridBook::blank(cells, size)
-    }
-
-    // An empty book of a size that the cells allow.
-    fn blank(cells: &'a mut [Cell], size: Size) -> GridBook<'a>
-        requires { Sized (length cells.old) size.cycle size.links size.room }
-        ensures { meaning_of result ≡ empty size.cycle size.links size.room }
-    {
-        clear(cells);
+        cells.fill(Cell::Free);
+        let extent = size.extent;
         GridBook {
-            grid: Grid { cells },
-            cycle: size.cycle,
-            links: size.links,
+            grid: Grid { cells, extent },
             room: size.room,
             count: 0,
         }

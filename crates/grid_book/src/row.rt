@@ -1,76 +1,76 @@
 //! The row of one link: its cells, tick by tick.
 
 ghost use Rattle.std.specs.Prelude.{◌≡◌, ◌<◌, ◌≤◌, length, Decides};
-ghost use Rattle.book.specs.Calls.{Clashes};
-ghost use Rattle.book.specs.Spans.{span};
+ghost use Rattle.book.specs.Calls.{Clashes, Holds};
+ghost use Rattle.book.specs.Spans.{span, Fits, Free, Run};
 ghost use Rattle.limits.specs.Ranges.{Within, cycle_max};
-ghost use Rattle.grid_book.specs.Cells.{begun, cell_at, is_free, spans, Marked};
-ghost use Rattle.grid_book.specs.Rows.{AlikeFor, Painted};
+ghost use Rattle.grid_book.specs.Cells.{cell_at, spans, Marked};
+ghost use Rattle.grid_book.specs.Props.{marked_prop};
+ghost use Rattle.grid_book.specs.Rows.{Painted};
 
 use crate::cell::Cell;
 use book::Holding;
 
-// The cell of a tick; one that is not there is free.
-fn cell_at(row: &[Cell], tick: u32) -> Cell
-    ensures { result ≡ cell_at row.now tick }
-{
-    let place = tick as usize;
-    if place < row.len() {
-        row[place]
-    } else {
-        Cell::Free
-    }
+// The cells of one link of a book, as far as there are any, and the cycle.
+#[derive(Drop)]
+pub(crate) struct Row<'a> {
+    pub(crate) cells: &'a [Cell],
+    pub(crate) cycle: u32,
+    ghost marked: { Marked cycle cells.now } by { marked_prop cycle cells.now },
+    ghost limited: { cycle ≤ cycle_max },
 }
 
-// Whether a tick is free.
-pub(crate) fn is_free(row: &[Cell], tick: u32) -> bool
-    ensures { result ≡ is_free (cell_at row.now tick) }
-{
-    match cell_at(row, tick) {
-        Cell::Free => true,
-        Cell::First { .. } => false,
-        Cell::Further => false,
+impl Row<'_> {
+    // The cell of a tick; one that is not there is free.
+    fn cell(&self, tick: u32) -> Cell
+        ensures { result ≡ cell_at self.now.cells.now tick }
+    {
+        self.cells.get(tick as usize).copied().unwrap_or(Cell::Free)
     }
-}
 
-// The booking that begins at a tick.
-pub(crate) fn begun_at(row: &[Cell], tick: u32) -> Option<Holding>
-    ensures { result ≡ begun (cell_at row.now tick) }
-{
-    match cell_at(row, tick) {
-        Cell::Free => None,
-        Cell::First { ticks, flow } => Some(Holding { ticks, flow }),
-        Cell::Further => None,
+    // Whether a tick is free.
+    fn is_free(&self, tick: u32) -> bool
+        requires { tick < self.now.cycle }
+        ensures { Decides result (Free self.now.cycle (spans self.now.cells.now) tick) }
+    {
+        self.cell(tick).is_free()
     }
-}
 
-// How many ticks from a tick on, going round, are alike, counted up to a limit.
-pub(crate) fn alike_for(row: &[Cell], cycle: u32, tick: u32, limit: u32) -> u32
-    requires marked { Marked cycle row.now }
-    requires ranges { (tick < cycle) × ((Within 1 cycle limit) × (cycle ≤ cycle_max)) }
-    ensures { AlikeFor cycle (spans row.now) tick limit result }
-{
-    let free = is_free(row, tick);
-    let mut ticks = 1;
-    while ticks < limit && is_free(row, (tick + ticks) % cycle) == free {
-        ticks += 1;
+    // The booking that begins at a tick.
+    #[tactic(auto, using(crate::proofs::Starts::holds_at))]
+    pub(crate) fn begun_at(&self, tick: u32) -> Option<Holding>
+        ensures { Holds (spans self.now.cells.now) tick result }
+    {
+        self.cell(tick).begun()
     }
-    ticks
-}
 
-// Whether a tick of a booking is covered already.
-pub(crate) fn is_covered(row: &[Cell], cycle: u32, start: u32, ticks: u32) -> bool
-    requires marked { Marked cycle row.now }
-    requires ranges { (start < cycle) × ((Within 1 cycle ticks) × (cycle ≤ cycle_max)) }
-    ensures { Decides result (Clashes cycle (spans row.now) (span start ticks 0)) }
-{
-    !is_free(row, start) || alike_for(row, cycle, start, ticks) < ticks
+    // Whether a tick is free, and how many from it on, going round, are alike.
+    pub(crate) fn run(&self, tick: u32) -> (bool, u32)
+        requires { tick < self.now.cycle }
+        ensures free { Decides result.0 (Free self.now.cycle (spans self.now.cells.now) tick) }
+        ensures run { Run self.now.cycle (spans self.now.cells.now) tick result.1 }
+    {
+        let free = self.is_free(tick);
+        let ticks = (1..self.cycle)
+            .find(|past| self.is_free((tick + past) % self.cycle) != free)
+            .unwrap_or(self.cycle);
+        (free, ticks)
+    }
+
+    // Whether a tick of a booking is covered already.
+    pub(crate) fn is_covered(&self, start: u32, holding: Holding) -> bool
+        requires { Fits self.now.cycle (span start holding.ticks holding.flow) }
+        ensures { Decides result (Clashes self.now.cycle (spans self.now.cells.now) (span start holding.ticks holding.flow)) }
+    {
+        (0..holding.ticks).any(|past| !self.is_free((start + past) % self.cycle))
+    }
 }
 
 // Writes the cells of a booking: one at its first tick, and another at each further tick.
 pub(crate) fn paint(row: &mut [Cell], start: u32, ticks: u32, first: Cell, further: Cell)
-    requires whole { length row.old ≤ cycle_max }
-    requires ranges { (start < length row.old) × (Within 1 (length row.old) ticks) }
+    requires limited { length row.old ≤ cycle_max }
+    requires begins { start < length row.old }
+    requires lasts { Within 1 (length row.old) ticks }
     ensures { Painted (length row.old) start ticks first further row.old row.new }
 {
     let cycle = row.len();

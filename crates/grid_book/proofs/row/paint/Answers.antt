@@ -17,7 +17,7 @@ loop-past-preserved c =
     let begun = set row start c.args.first in
     let long : length begun ≡ length row = length-set row start c.args.first in
     subst (λ n. Painted (length begun) start (past + 1) (cell_at begun start) c.args.further begun (set c.loop-past.row (round n start past) c.args.further)) long
-    (painted_more (length begun) start past (cell_at begun start) c.args.further begun c.loop-past.row (omega (arith, c.requires.ranges.0)) (omega arith) (omega (arith, c.requires.ranges.1.most)) c.loop-past.auto.row c.loop-past.invariant)
+    (painted_more (length begun) start past (cell_at begun start) c.args.further begun c.loop-past.row (omega (arith, c.requires.begins)) (omega arith) (omega (arith, c.requires.lasts.most)) c.loop-past.auto.row c.loop-past.invariant)
 
 pub returns : goal.returns
 returns c =
@@ -25,7 +25,7 @@ returns c =
     let start = c.args.start in
     let begun = set row start c.args.first in
     let long : length begun ≡ length row = length-set row start c.args.first in
-    let all : c.loop-past.past ≡ c.args.ticks = omega (arith, c.requires.ranges.1.least) in
+    let all : c.loop-past.past ≡ c.args.ticks = omega (arith, c.requires.lasts.least) in
     let inv = subst (λ k. Painted (length begun) start k (cell_at begun start) c.args.further begun c.loop-past.row) all c.loop-past.invariant in
-    painted_first (length row) start c.args.ticks c.args.first c.args.further row c.loop-past.row c.requires.ranges.0 c.requires.ranges.1.least refl
+    painted_first (length row) start c.args.ticks c.args.first c.args.further row c.loop-past.row c.requires.begins c.requires.lasts.least refl
     (subst (λ n. Painted n start c.args.ticks (cell_at begun start) c.args.further begun c.loop-past.row) long inv)
