@@ -1,5 +1,5 @@
 -- A grid of free cells. Assumes nothing.
-use Rattle.std.proofs.Common.{◌≡◌, ℕ, zero, suc, ◌+◌, ◌*◌, List, [], ◌∷◌, length, take, drop, replicate, sym, refl, ap, ◌∙◌, subst}
+use Rattle.std.proofs.Common.{◌≡◌, ℕ, zero, suc, ◌+◌, ◌*◌, List, [], ◌∷◌, take, drop, replicate, sym, refl, ap, ◌∙◌, subst}
 use Rattle.book.specs.Empty.{empty_formed, empty_total}
 use Rattle.book.specs.Bare.{empty}
 use Rattle.book.specs.Meanings.{Formed, total}

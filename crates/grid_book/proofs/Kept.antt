@@ -1,16 +1,15 @@
 -- What a grid keeps when a booking is added or taken away. Assumes nothing.
-use Rattle.std.proofs.Common.{◌≡◌, ℕ, suc, ◌+◌, ◌-◌, ◌*◌, ◌<◌, ◌≤◌, List, [], ◌∷◌, length, set, Some, None, Ok, sym, refl, ap, ◌∙◌, subst, inr, ⊎_elim, suc-mul, arith}
+use Rattle.std.proofs.Common.{◌≡◌, ℕ, ◌+◌, ◌-◌, ◌<◌, ◌≤◌, List, [], ◌∷◌, length, set, Some, None, Ok, sym, refl, ap, ◌∙◌, subst, inr, ⊎_elim, arith}
 use Rattle.book.proofs.Rows.{in_begins}
 use Rattle.book.proofs.Whole.{fits_or_not, orderly_row, stays_formed}
 use Rattle.book.specs.Calls.{Clashes, TellsHolder, tick_rules, book_rules, release_rules}
-use Rattle.book.specs.Meanings.{Meaning, Formed, row, total, with_row}
+use Rattle.book.specs.Meanings.{Formed, row, total, with_row}
 use Rattle.book.specs.Spans.{Span, span, In, Fits, NoneBeginsAt, Orderly, insert, without}
 use Rattle.book.specs.declared.refusal.BookRefusal.TheVariants.{NoneBegins}
 use Rattle.book.specs.declared.refusal.Holding.{Holding}
 use Rattle.limits.proofs.Once.{none_hold, first_passed, within_or_not}
-use Rattle.limits.specs.Ranges.{Within, link_max}
+use Rattle.limits.specs.Ranges.{Within}
 use Rattle.limits.specs.Refusals.{First}
-use Rattle.std.proofs.lemmas.Nat.{mul-le}
 use Rattle.std.proofs.lemmas.Bool.{cases_lt, cases_eq}
 use Rattle.grid_book.specs.declared.cell.Cell.{Cell}
 use Rattle.grid_book.specs.declared.cell.Cell.TheVariants.{Free as free_cell, First as first_Cell, Further}

@@ -14,10 +14,6 @@ use Rattle.grid_book.specs.Rows.{Painted}
 use Rattle.book.proofs.Offsets.{offset_round, round_offset, offset_start, offset_zero}
 use Rattle.grid_book.proofs.Starts.{holds_at, first_inserts, other_removes, same_spans}
 
--- before any further tick is written
-pub painted_none : (H start : ℕ) (further : Cell) (row : List Cell) → Painted H start 1 (cell_at row start) further row row
-painted_none H start more row = record { long = refl; at_start = refl; within = λ t l some one. absurd (omega arith); outside = λ t l past. refl }
-
 -- one further tick more
 pub painted_more : (H start k : ℕ) (first further : Cell) (before row : List Cell) → start < H → 0 < k → k < H → length row ≡ H → Painted H start k first further before row → Painted H start (k + 1) first further before (set row (round H start k) further)
 painted_more H start k first further before row begins some few long p =
@@ -39,17 +35,17 @@ painted_more H start k first further before row begins some few long p =
           get_or-set_other row (round H start k) t further free_cell other ∙ p.outside t l (omega arith);
     }
 
--- the first tick written before the others
-pub painted_first : (H start ticks : ℕ) (first further : Cell) (row after : List Cell) → start < H → 0 < ticks → length row ≡ H → Painted H start ticks (cell_at (set row start first) start) further (set row start first) after → Painted H start ticks first further row after
-painted_first H start ticks first more row after begins some long p =
+-- the first tick alone
+pub painted_one : (H start : ℕ) (first further : Cell) (row : List Cell) → start < H → length row ≡ H → Painted H start 1 first further row (set row start first)
+painted_one H start first more row begins long =
     let none = offset_start H start begins in
     record {
-      long = p.long ∙ length-set row start first;
-      at_start = p.at_start ∙ get_or-set_same row start first free_cell (omega arith);
-      within = p.within;
+      long = length-set row start first;
+      at_start = get_or-set_same row start first free_cell (omega arith);
+      within = λ t l pos one. absurd (omega arith);
       outside = λ t l past.
           let other : t ≡ start → ⊥ = λ e. omega (arith, ap (offset H start) e) in
-          p.outside t l past ∙ get_or-set_other row start t first free_cell other;
+          get_or-set_other row start t first free_cell other;
     }
 
 free_begun : (c : Cell) → is_free c ≡ true → begun c ≡ None

@@ -1,9 +1,9 @@
 -- Ticks that are alike, and ticks that are covered. Assumes nothing.
-use Rattle.std.proofs.Common.{◌≡◌, ℕ, ◌+◌, ◌%◌, ◌<◌, ◌≤◌, Bool, true, false, List, length, get_or, Some, None, Decides, Option, sym, refl, ap, ◌∙◌, subst, ⊎_elim, add-zero, mod-eq_of_lt, arith}
+use Rattle.std.proofs.Common.{◌≡◌, ℕ, ◌%◌, ◌<◌, ◌≤◌, Bool, true, false, List, length, get_or, Some, None, Decides, Option, sym, refl, ap, ◌∙◌, subst, ⊎_elim, add-zero, mod-eq_of_lt, arith}
 use Rattle.std.specs.Bool.{MatchBool}
 use Rattle.std.specs.List.{range_with_len, HoldsAt, AllWithin}
 use Rattle.std.specs.Option.{MatchOption, unwrap_or}
-use Rattle.book.proofs.Offsets.{round_below, round_offset, offset_round, offset_below}
+use Rattle.book.proofs.Offsets.{round_below, round_offset, offset_round}
 use Rattle.book.specs.Calls.{Clashes}
 use Rattle.book.specs.Spans.{Span, Fits, offset, Free, Alike, Stretch, Run, round}
 use Rattle.std.proofs.lemmas.Bool.{cases_eq, false≢true}

@@ -1,4 +1,4 @@
-use Rattle.std.proofs.Common.{◌+◌, ◌-◌, ◌*◌, ◌≤◌, arith}
+use Rattle.std.proofs.Common.{◌+◌, ◌-◌, ◌*◌, arith}
 use Rattle.grid_book.proofs.Places.{row_written, row_whole}
 use Rattle.grid_book.proofs.grid.Grid.paint.Goals as goal
 
