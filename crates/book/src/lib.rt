@@ -2,16 +2,13 @@
 
 #![tactic(auto)]
 
-ghost use Rattle.std.specs.Prelude.{◌≡◌, Decides};
-ghost use Rattle.book.specs.Calls.{Books, Releases, TellsHolder, TellsRun, TellsStretch, tick_rules};
-ghost use Rattle.limits.specs.Refusals.{First};
+ghost use Rattle.std.specs.Prelude.{◌≡◌};
+ghost use Rattle.book.specs.Calls.{Books, Releases, TellsHolder, TellsRun, TellsStretch};
 ghost use Rattle.book.specs.Bare.{bare};
 ghost use Rattle.book.specs.Laws.{BookLaws};
 ghost use Rattle.book.specs.Meanings.{Formed, Meaning, total};
-ghost use Rattle.book.specs.Spans.{Fits, span};
+ghost use Rattle.book.specs.Spans.{span};
 ghost use Rattle.book.specs.Empty.{empty_formed};
-
-use limits::Quantity;
 
 mod extent;
 mod refusal;
@@ -67,27 +64,6 @@ pub fn free_for<B: Book>(book: &B, link: u32, tick: u32) -> Result<(bool, u32), 
     ensures laws { BookLaws }
 {
     book.run(link, tick)
-}
-
-/// Why a question about a tick of a link is refused, in a book of such a cycle and so many links: for whoever
-/// supplies a book.
-pub fn tick_refusal(cycle: u32, links: u32, link: u32, tick: u32) -> Option<BookRefusal>
-    ensures { First (tick_rules (bare cycle links) link tick) result }
-{
-    if link == 0 || link > links {
-        return Some(BookRefusal::NoSuchLink);
-    }
-    if tick >= cycle {
-        return Some(BookRefusal::OutOfRange);
-    }
-    None
-}
-
-/// Whether start, length and flow number of a booking are in range: for whoever supplies a book.
-pub fn is_booking(cycle: u32, start: u32, ticks: u32, flow: u32) -> bool
-    ensures { Decides result (Fits cycle (span start ticks flow)) }
-{
-    start < cycle && 1 <= ticks && ticks <= cycle && Quantity::Flow.has(flow)
 }
 
 // A book that has no room: the contracts can be met, and this is what they refuse.
