@@ -9,6 +9,7 @@ use input::read_sheet;
 use sheet::account;
 
 // The account of a sheet, the one that is read.
+// Each program has its own: a function over both would take the call as a closure and promise what that promises, no more.
 fn text(rt: &HostRuntime) -> anyhow::Result<String>
     ensures { IfOk result (λ text. (sheet : List ℕ) × Account sheet (string_bytes text)) }
 {

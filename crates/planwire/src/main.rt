@@ -9,6 +9,7 @@ use input::read_sheet;
 use wiring::wiring_account;
 
 // The account of the wiring of a sheet, the one that is read.
+// Each program has its own: a function over both would take the call as a closure and promise what that promises, no more.
 fn text(rt: &HostRuntime) -> anyhow::Result<String>
     ensures { IfOk result (λ text. (sheet : List ℕ) × WiringAccount sheet (string_bytes text)) }
 {

@@ -1,9 +1,8 @@
 -- Where a byte first stands, there its first piece ends. Assumes nothing.
-use Rattle.std.proofs.Common.{◌≡◌, ℕ, zero, suc, ◌+◌, ◌-◌, ◌<◌, ◌≤◌, eqb, List, [], ◌∷◌, ◌++◌, length, take, drop, sym, refl, ap, ◌∙◌, append-nil, arith, length-drop, take-append-drop, length-take-le, get_or-drop, take_all, get_or-take, drop-drop}
+use Rattle.std.proofs.Common.{◌≡◌, ℕ, zero, suc, eqb, List, [], ◌∷◌, ◌++◌, sym, refl, ap, ◌∙◌, append-nil, arith}
 use Rattle.std.specs.List.{AllByRecursion}
-use Rattle.std.proofs.lemmas.List.{drop_more}
 use Rattle.std.proofs.lemmas.Bool.{eqb-true, eqb-false, eq-eqb, ne_eqb, cond-true, cond-false, cond_both}
-use Rattle.sheet.specs.Pieces.{pieces, Lacks, AllLack, led, rejoined, PiecesRejoin, FirstFrom}
+use Rattle.sheet.specs.Pieces.{pieces, Lacks, AllLack, led, rejoined, PiecesRejoin}
 
 module _ (b : ℕ) where
   -- a byte other than b goes before the first piece
@@ -49,23 +48,3 @@ module _ (b : ℕ) where
 
 pub pieces_rejoin : PiecesRejoin
 pieces_rejoin b bs = (rejoins b bs, all_lack b bs, λ p lack same. sym (parted b p.first p.rest lack.0 lack.1) ∙ ap (pieces b) same)
-
-module _ (b : ℕ) (bs : List ℕ) (from end : ℕ) (first : FirstFrom b bs from end) where
-  lacks_before : Lacks b (take (end - from) (drop from bs))
-  lacks_before k l same =
-      let long = length-take-le (end - from) (drop from bs) (omega (arith, length-drop from bs, first.within)) in
-      let near : k < end - from = omega arith in
-      first.before (from + k) (omega arith) (omega arith) (sym (get_or-take (end - from) (drop from bs) k 0 near ∙ get_or-drop from bs k 0) ∙ same)
-
-  -- where b is found, the piece is followed by those of what comes after b
-  pub pieces_found : end < length bs → pieces b (drop from bs) ≡ record { first = take (end - from) (drop from bs); rest = (pieces b (drop (end + 1) bs)).first ∷ (pieces b (drop (end + 1) bs)).rest }
-  pieces_found inside =
-      let reach : from + (end - from) ≡ end = omega (arith, first.after) in
-      let onward : drop (end - from) (drop from bs) ≡ b ∷ drop (end + 1) bs = drop-drop (end - from) from bs ∙ ap (λ n. drop n bs) reach ∙ drop_more bs end 0 inside ∙ ap (λ x. x ∷ drop (end + 1) bs) (first.found inside) in
-      ap (pieces b) (sym (take-append-drop (end - from) (drop from bs)) ∙ ap (λ l. take (end - from) (drop from bs) ++ l) onward) ∙ first_piece b _ (drop (end + 1) bs) lacks_before
-
-  -- where it is not, the piece is the last
-  pub pieces_last : length bs ≤ end → pieces b (drop from bs) ≡ record { first = take (end - from) (drop from bs); rest = [] }
-  pieces_last past =
-      let whole = take_all (end - from) (drop from bs) (omega (arith, length-drop from bs)) in
-      ap (pieces b) (sym whole) ∙ only_piece b _ lacks_before

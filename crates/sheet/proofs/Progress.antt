@@ -1,10 +1,10 @@
 -- A sheet whose lines are answered one more at a time. Assumes nothing.
 use Rattle.std.proofs.Common.{◌≡◌, ℕ, List, [], ◌∷◌, ◌++◌, sym, refl, ap, ◌∙◌, subst, inl, inr, append_assoc, append-nil}
 use borrow.Author.Tests.{clash}
-use Rattle.sheet.specs.Lines.{SheetLine}
+use Rattle.sheet.specs.Lines.{SheetLine, lines}
 use Rattle.sheet.specs.Replies.{reply_text, written}
 use Rattle.sheet.specs.Runs.{State, Answers, Run, first_state}
-use Rattle.sheet.specs.Wirings.{IsReady, UpToReady, only_refused}
+use Rattle.sheet.specs.Wirings.{IsReady, LeadsTo, UpToReady, only_refused}
 use Rattle.sheet.specs.declared.reply.Reply.{Reply}
 use Rattle.sheet.specs.declared.reply.Reply.TheVariants.{Done, Refused}
 
@@ -64,18 +64,54 @@ up_to : (ls left fs : List SheetLine) → Unready ls → UpToReady left fs → U
 up_to [] left fs h e = e
 up_to (k ∷ ks) left fs h e = (refl, inr (h.0, up_to ks left fs h.1 e))
 
--- the lines up to READY, where it is found
-pub up_to_found : (all seen left : List SheetLine) (l : SheetLine) → all ≡ seen ++ (l ∷ left) → Unready seen → IsReady l → UpToReady all (seen ++ (l ∷ []))
-up_to_found all seen left l split h ready = subst (λ ls. UpToReady ls (seen ++ (l ∷ []))) (sym split) (up_to seen (l ∷ left) (l ∷ []) h (refl, inl (ready, refl)))
-
--- all lines, where it is not
-pub up_to_end : (all seen left : List SheetLine) → all ≡ seen ++ left → left ≡ [] → Unready seen → UpToReady all seen
-up_to_end all seen left split e h =
-    subst (UpToReady all) (append-nil seen) (subst (λ ls. UpToReady ls (seen ++ [])) (sym split) (up_to seen left [] h (subst (λ ls. UpToReady ls []) (sym e) refl)))
-
--- what is written of all replies, and of those that refuse, with one reply more
-pub text_more : (done : List Reply) (r : Reply) (old new : List ℕ) → old ≡ written done → new ≡ old ++ written (r ∷ []) → new ≡ written (done ++ (r ∷ []))
+-- the text of all replies, and of those that refuse, with one reply more
+text_more : (done : List Reply) (r : Reply) (old new : List ℕ) → old ≡ written done → new ≡ old ++ written (r ∷ []) → new ≡ written (done ++ (r ∷ []))
 text_more done r old new e more = more ∙ ap (λ t. t ++ written (r ∷ [])) e ∙ sym (written_more done r)
 
-pub refusals_more : (done : List Reply) (r : Reply) (old new : List ℕ) → old ≡ written (only_refused done) → new ≡ old ++ written (only_refused (r ∷ [])) → new ≡ written (only_refused (done ++ (r ∷ [])))
+refusals_more : (done : List Reply) (r : Reply) (old new : List ℕ) → old ≡ written (only_refused done) → new ≡ old ++ written (only_refused (r ∷ [])) → new ≡ written (only_refused (done ++ (r ∷ [])))
 refusals_more done r old new e more = more ∙ ap (λ t. t ++ written (only_refused (r ∷ []))) e ∙ sym (refused_more done r)
+
+-- the lines that are answered, and the text of their replies
+pub record Accounted (all left : List SheetLine) (s : State) (text : List ℕ) : Type 0 where
+  pub sofar : Sofar all left s
+  pub replies : text ≡ written sofar.done
+
+-- the lines that are answered, none of them READY, and the text of their refusals
+pub record Wired (all left : List SheetLine) (s : State) (text : List ℕ) : Type 0 where
+  pub sofar : Sofar all left s
+  pub refusals : text ≡ written (only_refused sofar.done)
+  pub unready : Unready sofar.seen
+
+module _ (all next left : List SheetLine) (s : State) (l : SheetLine) (r : Reply) (u : State) (e : next ≡ l ∷ left) (a : Answers s l r u) (old new : List ℕ) where
+  pub account_more : Accounted all next s old → new ≡ old ++ written (r ∷ []) → Accounted all left u new
+  account_more h more = record { sofar = one_more all next left s l r u h.sofar e a; replies = text_more h.sofar.done r old new h.replies more }
+
+  module _ (h : Wired all next s old) (more : new ≡ old ++ written (only_refused (r ∷ []))) where
+    pub wired_more : (IsReady l → ⊥) → Wired all left u new
+    wired_more other = record {
+      sofar = one_more all next left s l r u h.sofar e a;
+      refusals = refusals_more h.sofar.done r old new h.refusals more;
+      unready = unready_more h.sofar.seen l h.unready other;
+    }
+
+    -- the lines up to READY, where it is found
+    pub wired_ready : (sheet : List ℕ) → all ≡ lines sheet → IsReady l → LeadsTo sheet u new
+    wired_ready sheet whole ready =
+        let after = one_more all next left s l r u h.sofar e a in
+        let split : all ≡ h.sofar.seen ++ (l ∷ left) = h.sofar.split ∙ ap (λ ls. h.sofar.seen ++ ls) e in (
+          after.seen,
+          after.done,
+          subst (λ ls. UpToReady ls after.seen) (sym split ∙ whole) (up_to h.sofar.seen (l ∷ left) (l ∷ []) h.unready (refl, inl (ready, refl))),
+          after.ran,
+          refusals_more h.sofar.done r old new h.refusals more,
+        )
+
+-- all lines, where READY is not found
+pub wired_end : (sheet : List ℕ) (left : List SheetLine) (s : State) (text : List ℕ) → Wired (lines sheet) left s text → left ≡ [] → LeadsTo sheet s text
+wired_end sheet left s text h e = (
+  h.sofar.seen,
+  h.sofar.done,
+  subst (UpToReady (lines sheet)) (append-nil h.sofar.seen) (subst (λ ls. UpToReady ls (h.sofar.seen ++ [])) (sym h.sofar.split) (up_to h.sofar.seen left [] h.unready (subst (λ ls. UpToReady ls []) (sym e) refl))),
+  h.sofar.ran,
+  h.refusals,
+)

@@ -1,61 +1,52 @@
 -- What a line says, from its words as they were read. Assumes nothing.
-use Rattle.std.proofs.Common.{◌≡◌, ℕ, zero, suc, ◌+◌, ◌<◌, true, false, List, [], ◌∷◌, ◌++◌, map, length, get_or, drop, Some, None, Option, sym, refl, ap, ◌∙◌, subst, inl, inr, ⊎_elim, arith}
+use Rattle.std.proofs.Common.{◌≡◌, ℕ, zero, suc, ◌+◌, ◌≤◌, true, false, eqb, List, [], ◌∷◌, ◌++◌, map, length, get_or, take, drop, Some, None, Option, Ok, Err, Result, sym, refl, ap, ◌∙◌, subst, inl, inr, arith}
 use Rattle.limits.proofs.Once.{first_found, first_passed}
 use Rattle.limits.specs.Refusals.{First}
-use Rattle.std.proofs.lemmas.List.{nil_from_length}
-use Rattle.std.proofs.lemmas.Bool.{true≢false}
+use Rattle.std.proofs.lemmas.List.{nil_from_length, drop_more, length-take}
+use Rattle.std.proofs.lemmas.Bool.{true≢false, cond_both}
 use Rattle.sheet.specs.Commands.{Begins, Numerals, Says, line_rules, number_rule, stage_rule}
-use Rattle.sheet.specs.Keywords.{spelled, arity_of, belongs_in}
-use Rattle.sheet.specs.Lines.{SheetLine, SheetWord, words_from, first_word, arguments}
-use Rattle.sheet.specs.Numerals.{Numeral, NoNumber}
-use Rattle.sheet.specs.Readers.{token_word}
-use Rattle.sheet.specs.Readings.{Collected, Opened, command_of, keyword_of, word_at}
-use Rattle.sheet.specs.declared.arguments.Arguments.{Arguments}
+use Rattle.sheet.specs.Keywords.{arity_of, belongs_in}
+use Rattle.sheet.specs.Lines.{SheetLine, SheetWord, arguments, placed}
+use Rattle.sheet.specs.Pieces.{Pieces, pieces}
+use Rattle.sheet.specs.Readings.{Reads, command_of, keyword_of}
+use Rattle.sheet.specs.declared.command.Command.{Command}
 use Rattle.sheet.specs.declared.command.Fault.{Fault}
 use Rattle.sheet.specs.declared.keyword.Keyword.{Keyword}
 use Rattle.sheet.specs.declared.keyword.Keyword.TheVariants as words
 use Rattle.sheet.specs.declared.keyword.Stage.{Stage}
-use Rattle.sheet.specs.declared.refusal.SheetRefusal.TheVariants.{UnknownWord, WordCount, OtherSide}
-use Rattle.sheet.specs.declared.token.Token.{Token}
+use Rattle.sheet.specs.declared.refusal.SheetRefusal.TheVariants.{WordCount, OtherSide}
+use Rattle.std.specs.Result.{IsErrAnd}
+use Rattle.sheet.proofs.Collecting.{numerals_long, numerals_pass}
 use Rattle.sheet.proofs.Spelling.{spelled_once}
 
--- where no rule of the words counts, none of them is no number
-none_bad : (ws : List SheetWord) → First (map number_rule ws) None → (k : ℕ) → k < length ws → NoNumber (word_at ws k).text → ⊥
-none_bad [] h k l bad = omega arith
-none_bad (w ∷ ws) (inl h) k l bad = let z : ◌≡◌ {A = ℕ} 0 1 = cc in omega arith
-none_bad (w ∷ ws) (inr h) zero l bad = h.0 bad
-none_bad (w ∷ ws) (inr h) (suc k) l bad = none_bad ws h.1 k (omega arith) bad
-
--- n values from the index i on
+-- n values from the index i on, one by one
 abbrev spread : List ℕ → ℕ → ℕ → List ℕ
 spread vs i zero = []
 spread vs i (suc n) = get_or vs i 0 ∷ spread vs (i + 1) n
 
-numerals_from : (ws : List SheetWord) (vs : List ℕ) (i : ℕ) → ((k : ℕ) → k < length ws → Numeral (word_at ws k).text (get_or vs (i + k) 0)) → Numerals ws (spread vs i (length ws))
-numerals_from [] vs i h = refl
-numerals_from (w ∷ ws) vs i h =
-    let first : i + 0 ≡ i = omega arith in (
-      subst (λ n. Numeral w.text (get_or vs n 0)) first (h 0 (omega arith)),
-      numerals_from ws vs (i + 1) (λ k l. let next : i + suc k ≡ i + 1 + k = omega arith in subst (λ n. Numeral (word_at ws k).text (get_or vs n 0)) next (h (suc k) (omega arith))),
-    )
+spread_out : (vs : List ℕ) (i n : ℕ) → i + n ≤ length vs → take n (drop i vs) ≡ spread vs i n
+spread_out vs i zero h = refl
+spread_out vs i (suc n) h = ap (take (suc n)) (drop_more vs i 0 (omega arith)) ∙ ap (λ t. get_or vs i 0 ∷ t) (spread_out vs (i + 1) n (omega arith))
 
--- words that were read without a fault are the values
-numerals_read : (ws : List SheetWord) (a : Arguments) (n : ℕ) → length ws ≡ n → Collected ws a → First (map number_rule ws) None → Numerals ws (spread a.values 0 n)
-numerals_read ws a n long h good =
-    subst (λ m. Numerals ws (spread a.values 0 m)) long (numerals_from ws a.values 0 (λ k l. let at : k ≡ 0 + k = omega arith in subst (λ m. Numeral (word_at ws k).text (get_or a.values m 0)) at (⊎_elim (λ bad. absurd (none_bad ws good k l bad)) (λ n. n) (h.values k l))))
+-- words that are the first n of some values
+numerals_are : (l : SheetLine) (vs : List ℕ) (n : ℕ) → length (arguments l) ≡ n → Numerals (arguments l) (take (length (arguments l)) vs) → Numerals (arguments l) (spread vs 0 n)
+numerals_are l vs n counted h =
+    let enough : n ≤ length vs = omega (arith, numerals_long (arguments l) _ h, length-take (length (arguments l)) vs) in
+    subst (Numerals (arguments l)) (ap (λ m. take m vs) counted ∙ spread_out vs 0 n (omega arith)) h
 
-pub says_read : (l : SheetLine) (k : Keyword) (a : Arguments) → Begins l k → length (arguments l) ≡ arity_of k → Collected (arguments l) a → First (map number_rule (arguments l)) None → Says l (command_of k a.values)
-says_read l words.Net a b n h good = (b, numerals_read (arguments l) a 5 n h good)
-says_read l words.Link a b n h good = (b, numerals_read (arguments l) a 2 n h good)
-says_read l words.Ready a b n h good = (b, nil_from_length (arguments l) n)
-says_read l words.Flow a b n h good = (b, refl)
-says_read l words.Drop a b n h good = (b, refl)
-says_read l words.Bar a b n h good = (b, refl)
-says_read l words.Lift a b n h good = (b, refl)
-says_read l words.Gates a b n h good = (b, refl)
-says_read l words.Faults a b n h good = (b, refl)
+-- what a line says comes of its keyword and the values of the words after it
+says_read : (l : SheetLine) (k : Keyword) (vs : List ℕ) → Begins l k → length (arguments l) ≡ arity_of k → Numerals (arguments l) (take (length (arguments l)) vs) → Says l (command_of k vs)
+says_read l words.Net vs b n h = (b, numerals_are l vs 5 n h)
+says_read l words.Link vs b n h = (b, numerals_are l vs 2 n h)
+says_read l words.Ready vs b n h = (b, nil_from_length (arguments l) n)
+says_read l words.Flow vs b n h = (b, refl)
+says_read l words.Drop vs b n h = (b, refl)
+says_read l words.Bar vs b n h = (b, refl)
+says_read l words.Lift vs b n h = (b, refl)
+says_read l words.Gates vs b n h = (b, refl)
+says_read l words.Faults vs b n h = (b, refl)
 
-pub keyword_kept : (k : Keyword) (vs : List ℕ) → keyword_of (command_of k vs) ≡ k
+keyword_kept : (k : Keyword) (vs : List ℕ) → keyword_of (command_of k vs) ≡ k
 keyword_kept words.Net vs = refl
 keyword_kept words.Link vs = refl
 keyword_kept words.Ready vs = refl
@@ -66,31 +57,52 @@ keyword_kept words.Lift vs = refl
 keyword_kept words.Gates vs = refl
 keyword_kept words.Faults vs = refl
 
-module _ (s : Stage) (l : SheetLine) where
-  pub rule_unknown : ((k : Keyword) → Begins l k → ⊥) → First (line_rules s l) (Some (record { refusal = UnknownWord; place = l.place }))
-  rule_unknown none = inl (none, refl)
+pub few_words : (k : Keyword) → arity_of k ≤ 7
+few_words words.Net = omega arith
+few_words words.Link = omega arith
+few_words words.Ready = omega arith
+few_words words.Flow = omega arith
+few_words words.Drop = omega arith
+few_words words.Bar = omega arith
+few_words words.Lift = omega arith
+few_words words.Gates = omega arith
+few_words words.Faults = omega arith
 
-  module _ (k : Keyword) (begins : Begins l k) where
-    pub rule_count : (length (arguments l) ≡ arity_of k → ⊥) → First (line_rules s l) (Some (record { refusal = WordCount; place = l.place }))
-    rule_count other = inr (λ none. none k begins, inl ((k, begins, other), refl))
+-- there are no more pieces after the first than bytes
+rest_few : (b : ℕ) (bs : List ℕ) → length (pieces b bs).rest ≤ length bs
+rest_few b [] = omega arith
+rest_few b (x ∷ xs) = cond_both {A = Pieces} (eqb x b) _ _ (λ p. length p.rest ≤ length (x ∷ xs)) (λ e. omega (arith, rest_few b xs)) (λ e. omega (arith, rest_few b xs))
 
-    module _ (counted : length (arguments l) ≡ arity_of k) where
-      past_count : (o : Option Fault) → First (map number_rule (arguments l) ++ (stage_rule s l ∷ [])) o → First (line_rules s l) o
-      past_count o h = inr (λ none. none k begins, inr (λ x. x.2 (counted ∙ ap arity_of (spelled_once k x.0 (sym begins ∙ x.1))), h))
+length_placed : (p : ℕ) (ts : List (List ℕ)) → length (placed p ts) ≡ length ts
+length_placed p [] = refl
+length_placed p (t ∷ ts) = ap suc (length_placed (p + length t + 1) ts)
 
-      pub rule_number : (f : Fault) → First (map number_rule (arguments l)) (Some f) → First (line_rules s l) (Some f)
-      rule_number f h = past_count (Some f) (first_found (map number_rule (arguments l)) (stage_rule s l ∷ []) f h)
+-- there are no more words after the first than bytes
+pub arguments_few : (l : SheetLine) → length (arguments l) ≤ length l.text
+arguments_few l = omega (arith, length_placed (l.place + length (pieces 32 l.text).first + 1) (pieces 32 l.text).rest, rest_few 32 l.text)
 
-      pub rule_stage : First (map number_rule (arguments l)) None → belongs_in k s ≡ false → First (line_rules s l) (Some (record { refusal = OtherSide; place = l.place }))
-      rule_stage h other = past_count _ (first_passed (map number_rule (arguments l)) (stage_rule s l ∷ []) _ h (inl ((k, begins, other), refl)))
+-- the line begins with k, and the words ws follow
+module _ (s : Stage) (l : SheetLine) (k : Keyword) (ws : List SheetWord) (begins : Begins l k) (follow : ws ≡ arguments l) where
+  pub rule_count : (length ws ≡ arity_of k → ⊥) → (f : Fault) → f ≡ record { refusal = WordCount; place = l.place } → First (line_rules s l) (Some f)
+  rule_count other f e = inr (λ none. none k begins, inl ((k, begins, λ same. other (ap length follow ∙ same)), ap Some e))
 
-      pub rule_none : First (map number_rule (arguments l)) None → belongs_in k s ≡ true → First (line_rules s l) None
-      rule_none h here = past_count _ (first_passed (map number_rule (arguments l)) (stage_rule s l ∷ []) _ h (inr (λ x. true≢false (sym here ∙ ap (λ j. belongs_in j s) (spelled_once k x.0 (sym begins ∙ x.1)) ∙ x.2), refl)))
+  module _ (counted : length ws ≡ arity_of k) where
+    past_count : (o : Option Fault) → First (map number_rule ws ++ (stage_rule s l ∷ [])) o → First (line_rules s l) o
+    past_count o h =
+        let same : length (arguments l) ≡ arity_of k = sym (ap length follow) ∙ counted in
+        inr (λ none. none k begins, inr (λ x. x.2 (same ∙ ap arity_of (spelled_once k x.0 (sym begins ∙ x.1))), subst (λ us. First (map number_rule us ++ (stage_rule s l ∷ [])) o) follow h))
 
--- a line from its tokens
-pub opened : (l : SheetLine) (t : Token) (left : List SheetWord) (k : Keyword) (a : Arguments)
-    → words_from l.place l.text ≡ token_word t ∷ left → (token_word t).text ≡ spelled k → length left ≡ arity_of k → Collected left a → Opened l k a
-opened l t left k a split text counted collected =
-    let first : first_word l ≡ token_word t = ap (λ ws. word_at ws 0) split in
-    let rest : arguments l ≡ left = ap (drop 1) split in
-    record { begins = ap (λ w. w.text) first ∙ text; counted = ap length rest ∙ counted; collected = subst (λ ws. Collected ws a) (sym rest) collected }
+    pub rule_number : (f : Fault) → First (map number_rule ws) (Some f) → (r : Result Command Fault) → IsErrAnd r (λ e. e ≡ f) → Reads s l r
+    rule_number f h (Ok c) is = absurd is
+    rule_number f h (Err e) is = subst (λ g. First (line_rules s l) (Some g)) (sym is) (past_count (Some f) (first_found (map number_rule ws) (stage_rule s l ∷ []) f h))
+
+    module _ (vs : List ℕ) (numerals : Numerals ws (take (length ws) vs)) where
+      pub rule_stage : belongs_in k s ≡ false → (f : Fault) → f ≡ record { refusal = OtherSide; place = l.place } → First (line_rules s l) (Some f)
+      rule_stage other f e = past_count (Some f) (first_passed (map number_rule ws) (stage_rule s l ∷ []) _ (numerals_pass ws _ numerals) (inl ((k, begins, other), ap Some e)))
+
+      pub rule_none : belongs_in k s ≡ true → (c : Command) → c ≡ command_of k vs → Reads s l (Ok c)
+      rule_none here c e = (
+        past_count None (first_passed (map number_rule ws) (stage_rule s l ∷ []) _ (numerals_pass ws _ numerals) (inr (λ x. true≢false (sym here ∙ ap (λ j. belongs_in j s) (spelled_once k x.0 (sym begins ∙ x.1)) ∙ x.2), refl))),
+        subst (Says l) (sym e) (says_read l k vs begins (sym (ap length follow) ∙ counted) (subst (λ us. Numerals us (take (length us) vs)) follow numerals)),
+        ap (λ d. belongs_in (keyword_of d) s) e ∙ ap (λ j. belongs_in j s) (keyword_kept k vs) ∙ here,
+      )

@@ -1,5 +1,5 @@
 -- The pieces that a byte parts a text into. Assumes nothing.
-use Rattle.std.specs.Prelude.{◌≡◌, ℕ, ◌<◌, ◌≤◌, cond, List, [], ◌∷◌, ◌++◌, length, ◌==◌, ◌≢◌, slice_index}
+use Rattle.std.specs.Prelude.{◌≡◌, ℕ, ◌<◌, cond, List, [], ◌∷◌, ◌++◌, length, ◌==◌, ◌≢◌, slice_index}
 use Rattle.std.specs.List.{AllByRecursion}
 
 -- the pieces of a text: the first, and those after it
@@ -32,10 +32,3 @@ rejoined b p = p.first ++ led b p.rest
 -- the pieces of a text lack b and rejoin to the text, and no other pieces do both
 abbrev pub PiecesRejoin : Type 0
 PiecesRejoin = (b : ℕ) (bs : List ℕ) → (rejoined b (pieces b bs) ≡ bs) × AllLack b (pieces b bs) × ((p : Pieces) → AllLack b p → rejoined b p ≡ bs → p ≡ pieces b bs)
-
--- of the offsets of bs from `from` on, r is the first at which b stands, or the length of bs where there is none
-pub record FirstFrom (b : ℕ) (bs : List ℕ) (from r : ℕ) : Type 0 where
-  pub after : from ≤ r
-  pub within : r ≤ length bs
-  pub before : (k : ℕ) → from ≤ k → k < r → slice_index bs k ≢ b
-  pub found : r < length bs → slice_index bs r ≡ b

@@ -1,6 +1,7 @@
 //! What a line asks for.
 
 use crate::keyword::Keyword;
+use crate::piece::Piece;
 use crate::refusal::SheetRefusal;
 use network::Numbers;
 
@@ -24,4 +25,18 @@ pub struct Fault {
     pub refusal: SheetRefusal,
     /// The place of the word at fault.
     pub place: usize,
+}
+
+impl<'a> Piece<'a> {
+    ghost use Rattle.std.specs.Prelude.{◌≡◌};
+
+    // A fault at the place of the piece.
+    pub(crate) fn fault(self, refusal: SheetRefusal) -> Fault
+        ensures { result ≡ record { refusal = refusal; place = self.entry.place } }
+    {
+        Fault {
+            refusal,
+            place: self.place,
+        }
+    }
 }

@@ -2,35 +2,32 @@
 
 #![tactic(auto)]
 
-mod arguments;
 mod command;
 mod execution;
 mod keyword;
 mod lexer;
 mod line;
 mod numeral;
-mod outcome;
+mod piece;
 mod reader;
 mod reading;
 mod refusal;
 mod reply;
-mod scan;
 mod state;
 mod token;
 mod whole;
 mod wiring;
 
 pub use keyword::{Keyword, Stage};
-pub use outcome::Outcome;
 pub use refusal::{Layer, Refusal, SheetRefusal};
 pub use reply::Reply;
 pub use whole::{SHEET_MAX, account};
-pub use wiring::wire;
+pub use wiring::{WireError, wire};
 
 // Examples worked out by hand from the rules.
 #[cfg(test)]
 mod tests {
-    use crate::{Outcome, account, wire};
+    use crate::{WireError, account, wire};
     use std::test::Fail;
 
     // Where lines begin and end, what counts first, and the stages of a sheet.
@@ -91,9 +88,10 @@ mod tests {
             ),
         ];
         for (sheet, links, expected) in cases {
-            match wire(rt.alloc(), sheet.as_bytes())? {
-                Outcome::Network(network) => assert_eq!(rt; network.links(), links),
-                Outcome::Refused(replies) => assert_eq!(rt; replies.as_str(), expected),
+            match wire(rt.alloc(), sheet.as_bytes()) {
+                Ok(network) => assert_eq!(rt; network.links(), links),
+                Err(WireError::Refused(replies)) => assert_eq!(rt; replies.as_str(), expected),
+                Err(WireError::OutOfMemory(error)) => Err(error)?,
             }
         }
         Ok(())

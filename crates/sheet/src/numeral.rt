@@ -2,6 +2,8 @@
 ghost use Rattle.std.specs.Option.{MatchOption};
 ghost use Rattle.sheet.specs.Numerals.{Numeral, NoNumber};
 
+use std::str;
+
 // The most digits that a number has.
 const MOST_DIGITS: usize = 7;
 
@@ -9,18 +11,11 @@ const MOST_DIGITS: usize = 7;
 pub(crate) fn numeral(text: &[u8]) -> Option<u32>
     ensures { MatchOption result (NoNumber text.now) (λ n. Numeral text.now n) }
 {
-    if text.is_empty() || text.len() > MOST_DIGITS {
+    if text.len() > MOST_DIGITS || !text.iter().all(|byte| byte.is_ascii_digit()) {
         return None;
     }
-    if text[0] == b'0' && text.len() > 1 {
+    if text.len() > 1 && text[0] == b'0' {
         return None;
     }
-    let mut value = 0;
-    for byte in text {
-        if *byte < b'0' || *byte > b'9' {
-            return None;
-        }
-        value = value * 10 + (*byte - b'0') as u32;
-    }
-    Some(value)
+    str::from_utf8(text).ok()?.parse().ok()
 }

@@ -1,10 +1,12 @@
 //! A line is read word by word, and its first fault found.
 
-ghost use Rattle.std.specs.Prelude.{◌≡◌, ◌+◌, ◌^◌, ◌<◌, ◌≤◌, length, MatchOption, ◌≢◌};
+ghost use Rattle.std.specs.Prelude.{◌≡◌, ◌≤◌, length, take, map, Some, IfSome, MatchOption, MatchResult};
+ghost use Rattle.limits.specs.Refusals.{First};
+ghost use Rattle.sheet.specs.Commands.{Begins, Numerals, number_rule};
+ghost use Rattle.sheet.specs.Lines.{arguments};
 ghost use Rattle.sheet.specs.Readers.{seen_line, words_left};
-ghost use Rattle.sheet.specs.Readings.{Collected, Opens, Reads, command_of, noted};
+ghost use Rattle.sheet.specs.Readings.{Reads, command_of};
 
-use crate::arguments::Arguments;
 use crate::command::{Command, Fault};
 use crate::keyword::{Keyword, Stage};
 use crate::lexer::Lexer;
@@ -13,43 +15,29 @@ use crate::refusal::SheetRefusal;
 use crate::token::Token;
 use network::Numbers;
 
-impl Arguments {
-    // What is known with one token more, at an index.
-    fn with(self, index: usize, token: Token) -> Arguments
-        requires { index < 7 }
-        ensures { result ≡ noted self index token.entry }
-    {
-        let mut values = self.values;
-        let mut fault = self.fault;
-        match token {
-            Token::Number { value, .. } => values[index] = value,
-            Token::Word { place, .. } => {
-                if fault.is_none() {
-                    fault = Some(place);
-                }
-            }
-        }
-        Arguments { values, fault }
-    }
+// The keyword that a line begins with, and the words after it.
+fn open<'a>(line: Line<'a>) -> Option<(Keyword, Lexer<'a>)>
+    ensures keyword { MatchOption result ((k : Keyword) → Begins (seen_line line.entry) k → ⊥) (λ p. Begins (seen_line line.entry) p.0) }
+    ensures words { IfSome result (λ p. words_left p.1 ≡ arguments (seen_line line.entry)) }
+{
+    let mut words = Lexer::new(line.text);
+    let keyword = Keyword::of(words.next()?.word().bytes)?;
+    Some((keyword, words))
 }
 
-// The words that a lexer has yet to hand out, if there are as many as wanted.
-fn collect(mut lexer: Lexer, wanted: usize) -> Option<Arguments>
-    requires { wanted ≤ 7 }
-    ensures { MatchOption result (length (words_left lexer.entry) ≢ wanted) (λ a. (length (words_left lexer.entry) ≡ wanted) × Collected (words_left lexer.entry) a) }
+// The numbers that words are, or the fault of the first word that is none.
+fn numbers(words: Lexer) -> Result<[u32; 7], Fault>
+    requires { length (words_left words) ≤ 7 }
+    ensures { MatchResult result (λ values. Numerals (words_left words.entry) (take (length (words_left words.entry)) values)) (λ fault. First (map number_rule (words_left words.entry)) (Some fault)) }
 {
-    let mut so_far = Arguments {
-        values: [0; 7],
-        fault: None,
-    };
-    for index in 0..wanted {
-        let token = lexer.next_token()?;
-        so_far = so_far.with(index, token);
+    let mut values = [0; 7];
+    for (index, token) in words.enumerate() {
+        match token {
+            Token::Number(_, value) => values[index] = value,
+            Token::Word(word) => return Err(word.fault(SheetRefusal::NotANumber)),
+        }
     }
-    match lexer.next_token() {
-        Some(_) => None,
-        None => Some(so_far),
-    }
+    Ok(values)
 }
 
 // What a keyword and the numbers after it ask for.
@@ -57,14 +45,20 @@ fn command(keyword: Keyword, values: [u32; 7]) -> Command
     ensures { result ≡ command_of keyword values }
 {
     match keyword {
-        Keyword::Net => Command::Net(Numbers {
-            nodes: values[0],
-            speed: values[1],
-            tick: values[2],
-            forwarding: values[3],
-            cycle: values[4],
-        }),
-        Keyword::Link => Command::Link(values[0], values[1]),
+        Keyword::Net => {
+            let [nodes, speed, tick, forwarding, cycle, ..] = values;
+            Command::Net(Numbers {
+                nodes,
+                speed,
+                tick,
+                forwarding,
+                cycle,
+            })
+        }
+        Keyword::Link => {
+            let [from, to, ..] = values;
+            Command::Link(from, to)
+        }
         Keyword::Ready => Command::Ready,
         Keyword::Flow
         | Keyword::Drop
@@ -75,51 +69,17 @@ fn command(keyword: Keyword, values: [u32; 7]) -> Command
     }
 }
 
-// The keyword that a line begins with, and as many words after it as it asks for.
-fn open(line: Line) -> Result<(Keyword, Arguments), Fault>
-    requires { line.place + length line.text.now < 2 ^ 64 }
-    ensures { Opens (seen_line line.entry) result }
-{
-    let place = line.place;
-    let mut lexer = Lexer::new(line);
-    let Some(first) = lexer.next_token() else {
-        return Err(Fault {
-            refusal: SheetRefusal::UnknownWord,
-            place,
-        });
-    };
-    let Some(keyword) = Keyword::of(first.text()) else {
-        return Err(Fault {
-            refusal: SheetRefusal::UnknownWord,
-            place,
-        });
-    };
-    let Some(arguments) = collect(lexer, keyword.arity()) else {
-        return Err(Fault {
-            refusal: SheetRefusal::WordCount,
-            place,
-        });
-    };
-    Ok((keyword, arguments))
-}
-
 // What a line asks for at a stage of its sheet, or the first of its faults.
 pub(crate) fn read(line: Line, stage: Stage) -> Result<Command, Fault>
-    requires { line.place + length line.text.now < 2 ^ 64 }
     ensures { Reads stage (seen_line line.entry) result }
 {
-    let (keyword, arguments) = open(line)?;
-    if let Some(place) = arguments.fault {
-        return Err(Fault {
-            refusal: SheetRefusal::NotANumber,
-            place,
-        });
+    let (keyword, words) = open(line).ok_or(line.text.fault(SheetRefusal::UnknownWord))?;
+    if words.count() != keyword.arity() {
+        return Err(line.text.fault(SheetRefusal::WordCount));
     }
+    let values = numbers(words)?;
     if !keyword.belongs(stage) {
-        return Err(Fault {
-            refusal: SheetRefusal::OtherSide,
-            place: line.place,
-        });
+        return Err(line.text.fault(SheetRefusal::OtherSide));
     }
-    Ok(command(keyword, arguments.values))
+    Ok(command(keyword, values))
 }

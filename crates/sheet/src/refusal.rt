@@ -2,22 +2,23 @@
 
 ghost use Rattle.std.specs.Prelude.{◌≡◌};
 ghost use Rattle.sheet.specs.Refusals.{layer_of, number_of, sheet_number};
+ghost use Rattle.sheet.specs.declared.refusal.Refusal.TheVariants.{Sheet, Network};
 
 use network::NetworkRefusal;
 
 /// Why a line is refused before anything is done with it.
 #[derive(Clone, Copy, PartialEq, Eq, Debug)]
 pub enum SheetRefusal {
-    /// 61: the line begins with no word that is known.
-    UnknownWord,
-    /// 62: more or fewer words follow than the first word asks for.
-    WordCount,
-    /// 63: a word that should be a number is none.
-    NotANumber,
-    /// 64: the line belongs on the other side of `READY`.
-    OtherSide,
-    /// 65: the sheet has more than 32,768 bytes.
-    TooLong,
+    /// The line begins with no word that is known.
+    UnknownWord = 61,
+    /// More or fewer words follow than the first word asks for.
+    WordCount = 62,
+    /// A word that should be a number is none.
+    NotANumber = 63,
+    /// The line belongs on the other side of `READY`.
+    OtherSide = 64,
+    /// The sheet has more than 32,768 bytes.
+    TooLong = 65,
 }
 
 /// The part of the planner that refuses a line.
@@ -47,13 +48,23 @@ impl SheetRefusal {
     pub fn number(self) -> u32
         ensures { result ≡ sheet_number self }
     {
-        match self {
-            SheetRefusal::UnknownWord => 61,
-            SheetRefusal::WordCount => 62,
-            SheetRefusal::NotANumber => 63,
-            SheetRefusal::OtherSide => 64,
-            SheetRefusal::TooLong => 65,
-        }
+        self as u32
+    }
+}
+
+impl From<SheetRefusal> for Refusal {
+    ghost from_gives = { λ s r. r ≡ Sheet s };
+
+    fn from(reason: SheetRefusal) -> Refusal {
+        Refusal::Sheet(reason)
+    }
+}
+
+impl From<NetworkRefusal> for Refusal {
+    ghost from_gives = { λ n r. r ≡ Network n };
+
+    fn from(reason: NetworkRefusal) -> Refusal {
+        Refusal::Network(reason)
     }
 }
 

@@ -8,6 +8,7 @@ use crate::refusal::{Layer, Refusal};
 use std::fmt;
 
 /// What a line of a sheet is answered.
+// An enum of its own and no `Result`: it is printed, and a `Result` could not be given this `Display`.
 #[derive(Clone, Copy, PartialEq, Eq, Debug)]
 pub enum Reply {
     /// `OK`: what the line asks for is done.

@@ -1,11 +1,9 @@
 //! The account of a whole sheet.
 
-ghost use Rattle.std.specs.Prelude.{◌≡◌, [], ◌∷◌, ◌++◌, length, IfOk, string_bytes, OnOk};
+ghost use Rattle.std.specs.Prelude.{IfOk, string_bytes};
 ghost use Rattle.sheet.specs.Laws.{SheetLaws};
-ghost use Rattle.sheet.specs.Replies.{written};
-ghost use Rattle.sheet.specs.Runs.{Account, too_long};
+ghost use Rattle.sheet.specs.Runs.{Account};
 
-use crate::execution::respond;
 use crate::reader::Reader;
 use crate::refusal::{Refusal, SheetRefusal};
 use crate::reply::Reply;
@@ -22,30 +20,20 @@ pub(crate) const TOO_LONG: Reply = Reply::Refused {
     place: 0,
 };
 
-// Writes a reply after those before it.
-pub(crate) fn push_reply(heap: Global, out: &mut String, reply: Reply) -> Result<(), AllocError>
-    ensures { OnOk result (string_bytes out.new ≡ string_bytes out.old ++ written (reply ∷ [])) }
-{
-    let text = format!(in heap; "{reply}\n")?;
-    out.push_str(text.as_str())
-}
-
 /// The account of a sheet: a reply for each line, in order, each ended by byte 10; or want of memory.
+#[tactic(auto, using(crate::proofs::Wholes::sheet_laws))]
 pub fn account(heap: Global, sheet: &[u8]) -> Result<String, AllocError>
     ensures account { IfOk result (λ text. Account sheet.now (string_bytes text)) }
     ensures laws { SheetLaws }
 {
-    let mut out = String::new(heap);
     if sheet.len() > SHEET_MAX {
-        push_reply(heap, &mut out, TOO_LONG)?;
-        return Ok(out);
+        return format!(in heap; "{TOO_LONG}\n");
     }
-    let mut reader = Reader::new(sheet);
+    let mut out = String::new(heap);
     let mut state = SheetState::new();
-    while let Some(line) = reader.next_line() {
-        let (after, reply) = respond(state, line);
-        state = after;
-        push_reply(heap, &mut out, reply)?;
+    for line in Reader::new(sheet) {
+        let reply = state.respond(line);
+        writeln!(out, "{reply}")?;
     }
     Ok(out)
 }

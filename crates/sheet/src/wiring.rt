@@ -1,21 +1,37 @@
 //! The network that a sheet wires, without the lines for the planner.
 
-ghost use Rattle.std.specs.Prelude.{◌≡◌, [], ◌∷◌, ◌++◌, IfOk, string_bytes, Decides, OnOk};
+ghost use Rattle.std.specs.Prelude.{◌≡◌, [], ◌∷◌, ◌++◌, IfOk, OnOk, Decides, string_bytes};
 ghost use Rattle.network.specs.Views.{closed};
 ghost use Rattle.sheet.specs.Readers.{seen_line};
 ghost use Rattle.sheet.specs.Replies.{written};
 ghost use Rattle.sheet.specs.Runs.{state_of};
-ghost use Rattle.sheet.specs.Wirings.{Finishes, IsReady, Wires, only_refused};
+ghost use Rattle.sheet.specs.Wirings.{IsReady, LeadsTo, WireAnswers, only_refused};
+ghost use Rattle.sheet.specs.declared.wiring.WireError.TheVariants.{OutOfMemory};
 
-use crate::execution::respond;
 use crate::line::Line;
-use crate::outcome::Outcome;
 use crate::reader::Reader;
 use crate::reply::Reply;
 use crate::state::SheetState;
-use crate::whole::{SHEET_MAX, TOO_LONG, push_reply};
+use crate::whole::{SHEET_MAX, TOO_LONG};
 use network::Network;
 use std::alloc::{AllocError, Global};
+
+/// Why a sheet wires no network.
+#[derive(Debug, Drop)]
+pub enum WireError {
+    /// Lines were refused: the replies to them, each ended by byte 10.
+    Refused(String),
+    /// Memory was wanting.
+    OutOfMemory(AllocError),
+}
+
+impl From<AllocError> for WireError {
+    ghost from_gives = { λ a e. e ≡ OutOfMemory a };
+
+    fn from(error: AllocError) -> WireError {
+        WireError::OutOfMemory(error)
+    }
+}
 
 impl SheetState {
     // The network, closed if it is not yet.
@@ -29,55 +45,51 @@ impl SheetState {
     }
 }
 
-// The network, unless some line was refused.
-fn finish(state: SheetState, refused: String) -> Outcome
-    ensures { Finishes (string_bytes refused) (state_of state) result }
-{
-    if refused.len() == 0 {
-        Outcome::Network(state.into_network())
-    } else {
-        Outcome::Refused(refused)
-    }
-}
-
-// Writes a reply that refuses a line; `OK` is not written.
-fn push_refused(heap: Global, out: &mut String, reply: Reply) -> Result<(), AllocError>
-    ensures { OnOk result (string_bytes out.new ≡ string_bytes out.old ++ written (only_refused (reply ∷ []))) }
-{
-    match reply {
-        Reply::Done => Ok(()),
-        Reply::Refused { .. } => push_reply(heap, out, reply),
-    }
-}
-
 // Whether a line is `READY` and nothing else.
 fn is_ready(line: Line) -> bool
     ensures { Decides result (IsReady (seen_line line.entry)) }
 {
-    match line.text {
-        b"READY" => true,
-        _ => false,
+    line.text.bytes == b"READY".as_slice()
+}
+
+// Appends a reply that refuses a line; `OK` is not written.
+fn push_refused(out: &mut String, reply: Reply) -> Result<(), AllocError>
+    ensures { OnOk result (string_bytes out.new ≡ string_bytes out.old ++ written (only_refused (reply ∷ []))) }
+{
+    match reply {
+        Reply::Done => Ok(()),
+        Reply::Refused { .. } => writeln!(out, "{reply}"),
     }
 }
 
-/// The network that the lines of a sheet up to its `READY` wire, or the replies to those that are refused; or want of memory.
-pub fn wire(heap: Global, sheet: &[u8]) -> Result<Outcome, AllocError>
-    ensures { IfOk result (λ outcome. Wires sheet.now outcome) }
+// Answers the lines of a sheet up to `READY`: the state after them, and the replies that refuse.
+fn answer_wiring(heap: Global, sheet: &[u8]) -> Result<(SheetState, String), AllocError>
+    ensures { IfOk result (λ p. LeadsTo sheet.now (state_of p.0) (string_bytes p.1)) }
 {
     let mut refused = String::new(heap);
-    if sheet.len() > SHEET_MAX {
-        push_reply(heap, &mut refused, TOO_LONG)?;
-        return Ok(Outcome::Refused(refused));
-    }
-    let mut reader = Reader::new(sheet);
     let mut state = SheetState::new();
-    while let Some(line) = reader.next_line() {
-        let (after, reply) = respond(state, line);
-        state = after;
-        push_refused(heap, &mut refused, reply)?;
+    for line in Reader::new(sheet) {
+        let reply = state.respond(line);
+        push_refused(&mut refused, reply)?;
         if is_ready(line) {
-            return Ok(finish(state, refused));
+            return Ok((state, refused));
         }
     }
-    Ok(finish(state, refused))
+    Ok((state, refused))
+}
+
+/// The network that the lines of a sheet up to its `READY` wire, or the replies to those that are refused; or want of memory.
+pub fn wire(heap: Global, sheet: &[u8]) -> Result<Network, WireError>
+    ensures { WireAnswers sheet.now result }
+{
+    if sheet.len() > SHEET_MAX {
+        let refused = format!(in heap; "{TOO_LONG}\n")?;
+        return Err(WireError::Refused(refused));
+    }
+    let (state, refused) = answer_wiring(heap, sheet)?;
+    if refused.is_empty() {
+        Ok(state.into_network())
+    } else {
+        Err(WireError::Refused(refused))
+    }
 }

@@ -1,14 +1,12 @@
 -- The account of a network, as bytes: what each line says, and all lines in order. Assumes nothing.
-use Rattle.std.specs.Prelude.{◌≡◌, ℕ, zero, suc, ◌+◌, List, [], ◌∷◌, ◌++◌, string_bytes, codes, decimal}
+use Rattle.std.specs.Prelude.{◌≡◌, ℕ, zero, suc, ◌+◌, List, [], ◌∷◌, ◌++◌, Ok, Err, codes, decimal}
 use Rattle.limits.specs.Ranges.{frame_min, frame_max, path_link_max}
 use Rattle.network.specs.Net.{Net}
 use Rattle.network.specs.Times.{FrameTime, latency}
 use Rattle.network.specs.declared.numbers.Link.{Link}
 use Rattle.network.specs.declared.numbers.Numbers.{Numbers}
 use Rattle.network.specs.Views.{closed}
-use Rattle.sheet.specs.Wirings.{Wires}
-use Rattle.sheet.specs.declared.outcome.Outcome.{Outcome}
-use Rattle.sheet.specs.declared.outcome.Outcome.TheVariants.{Network, Refused}
+use Rattle.sheet.specs.Wirings.{Outcome, Wires}
 
 -- what ends each line
 abbrev pub line_end : List ℕ
@@ -64,8 +62,8 @@ Describes net text = (small : ℕ) × (large : ℕ) × FrameTime net frame_min s
 
 -- the text comes of the outcome of a wiring: the account of the network, or the refusals
 abbrev pub Tells : Outcome → List ℕ → Type 0
-Tells (Network n) text = Describes (closed n) text
-Tells (Refused replies) text = text ≡ string_bytes replies
+Tells (Ok n) text = Describes (closed n) text
+Tells (Err refusals) text = text ≡ refusals
 
 -- the text is the account of the network that a sheet wires
 abbrev pub WiringAccount : List ℕ → List ℕ → Type 0

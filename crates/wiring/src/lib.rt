@@ -4,14 +4,14 @@
 
 ghost use Rattle.std.specs.Prelude.{IfOk, string_bytes};
 ghost use Rattle.network.specs.Views.{closed};
-ghost use Rattle.wiring.specs.Texts.{Describes, Tells, WiringAccount};
+ghost use Rattle.wiring.specs.Texts.{Describes, WiringAccount};
 
 mod lines;
 
 use limits::{FRAME_MAX, FRAME_MIN};
 use lines::{FrameLine, LatencyLines, LinkLines, NumberLines};
 use network::Network;
-use sheet::{Outcome, wire};
+use sheet::{WireError, wire};
 use std::alloc::{AllocError, Global};
 
 /// The account of a closed network, as text.
@@ -42,17 +42,10 @@ pub fn describe(heap: Global, network: &Network) -> Result<String, AllocError>
 pub fn wiring_account(heap: Global, sheet: &[u8]) -> Result<String, AllocError>
     ensures { IfOk result (λ s. WiringAccount sheet.now (string_bytes s)) }
 {
-    let outcome = wire(heap, sheet)?;
-    tell(heap, outcome)
-}
-
-// The text that comes of the outcome of a wiring.
-fn tell(heap: Global, outcome: Outcome) -> Result<String, AllocError>
-    ensures { IfOk result (λ s. Tells outcome (string_bytes s)) }
-{
-    match outcome {
-        Outcome::Network(network) => describe(heap, &network),
-        Outcome::Refused(replies) => Ok(replies),
+    match wire(heap, sheet) {
+        Ok(network) => describe(heap, &network),
+        Err(WireError::Refused(replies)) => Ok(replies),
+        Err(WireError::OutOfMemory(error)) => Err(error),
     }
 }
 

@@ -1,31 +1,24 @@
-use Rattle.std.proofs.Common.{◌<◌, length, sym, ◌∙◌, ⊎_elim, arith, below_more, false-eqb}
-use Rattle.std.proofs.lemmas.List.{at_drop_more, at_drop_all}
-use Rattle.sheet.specs.Numerals.{value_after}
-use Rattle.sheet.proofs.Values.{one_digit_more, six_digits}
+use Rattle.std.proofs.Common.{◌≡◌, ◌<◌, get_or, length, rules, subst, sym, arith}
+use Rattle.std.proofs.lemmas.Iterator.{cases_from_all, YieldsList-from_slice}
+use Rattle.std.specs.Int.{IsInRange}
+use Rattle.std.specs.Option.{MatchOption}
+use Rattle.std.specs.Str.Parse.{ParsesUnsigned}
+use Rattle.sheet.specs.Numerals.{Numeral, NoNumber}
+use Rattle.sheet.proofs.Values.{digits_utf8, readable, same_text, parsed}
+use Rattle.sheet.proofs.numeral.numeral.Goals.{else-text-gt1-via-then-text-gt1+else-text-eq48, else-text-gt1-via-else-text-gt1}
 use Rattle.sheet.proofs.numeral.numeral.Goals as goal
 
-pub overflow_mul-value : goal.overflow_mul-value
-overflow_mul-value c = omega (arith, six_digits _ _ c.loop-byte.invariant.1 (omega arith))
-
-pub overflow_add-value : goal.overflow_add-value
-overflow_add-value c = omega (arith, six_digits _ _ c.loop-byte.invariant.1 (omega arith))
-
-pub loop-byte-preserved : goal.loop-byte-preserved
-loop-byte-preserved c =
-    let next = at_drop_more (value_after c.loop-byte.value) c.args.text.now c.loop-byte.byte-index 0 c.loop-byte-test.true in (
-      sym next ∙ c.loop-byte.invariant.0,
-      one_digit_more _ _ _ c.loop-byte.invariant.1 c.if-byte-gt57.false,
-      below_more _ _ c.loop-byte.invariant.2 (c.if-byte-lt48.false, c.if-byte-gt57.false),
-    )
+pub returns-in_err-ok : goal.returns-in_err-ok
+returns-in_err-ok c =
+    let told = cases_from_all _ _ _ (IsInRange 48 57) (λ x. IsInRange 48 57 x → ⊥) c.all.ensures.ran (YieldsList-from_slice c.args.text.now c.iter.ensures.rest) (λ x q k. search rules) (λ x q k. search rules) in
+    let digits = rw c.if-not-all.false at told in
+    absurd (readable _ _ _ _ c.from_utf8.ensures.cases (digits_utf8 c.args.text.now (λ k l. digits k 0 (omega arith) l)) c.in_err-ok.ensures.value)
 
 pub returns : goal.returns
 returns c =
-    let last = at_drop_all (value_after c.loop-byte.value) c.args.text.now c.loop-byte.byte-index c.loop-byte-test.false in
-    let filled : 0 < length c.args.text.now = omega (arith, false-eqb _ 0 c.if-is_empty.ensures) in
-    record {
-      some = filled;
-      few = omega arith;
-      digits = λ k l. c.loop-byte.invariant.2 k (omega arith);
-      plain = λ naught. ⊎_elim (λ one. omega arith) (λ other. absurd (other naught)) c.else-text-eq48.either;
-      value = sym last ∙ c.loop-byte.invariant.0;
-    }
+    let told = cases_from_all _ _ _ (IsInRange 48 57) (λ x. IsInRange 48 57 x → ⊥) c.all.ensures.ran (YieldsList-from_slice c.args.text.now c.iter.ensures.rest) (λ x q k. search rules) (λ x q k. search rules) in
+    let digits = rw c.if-not-all.false at told in
+    let plain : 1 < length c.args.text.now → get_or c.args.text.now 0 0 ≡ 48 → ⊥ = λ long zero. elim c.else-text-gt1.branch [ else-text-gt1-via-then-text-gt1+else-text-eq48 w ↦ w.if-text-eq48.false zero | else-text-gt1-via-else-text-gt1 w ↦ omega arith ] in
+    let same = same_text _ _ _ _ c.from_utf8.ensures.cases c.in_ok-ok.ensures.value in
+    let value = parsed c.args.text.now c.parse.result (λ k l. digits k 0 (omega arith) l) (omega arith) plain (subst (λ t. ParsesUnsigned 32 10 t c.parse.result) same c.parse.ensures.value.0) in
+    subst (λ o. MatchOption o (NoNumber c.args.text.now) (λ n. Numeral c.args.text.now n)) (sym c.ok-2.ensures.value) value

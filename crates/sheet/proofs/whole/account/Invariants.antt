@@ -1,13 +1,9 @@
-use Rattle.std.proofs.Common.{◌≡◌, length, string_bytes}
+use Rattle.std.proofs.Common.{string_bytes}
 use Rattle.sheet.specs.Lines.{lines}
 use Rattle.sheet.specs.Readers.{lines_left}
-use Rattle.sheet.specs.Replies.{written}
 use Rattle.sheet.specs.Runs.{state_of}
-use Rattle.sheet.proofs.Progress.{Sofar}
+use Rattle.sheet.proofs.Progress.{Accounted}
 use Rattle.sheet.proofs.whole.account.Given as goal
 
 abbrev pub invariant-loop-line : goal.invariant-loop-line
-invariant-loop-line l = (h : Sofar (lines l.sheet) (lines_left l.reader) (state_of l.state)) × (string_bytes l.out ≡ written h.done)
-
-abbrev pub decreases-loop-line : goal.decreases-loop-line
-decreases-loop-line l = length (lines_left l.reader)
+invariant-loop-line l = Accounted (lines l.sheet) (lines_left l.line-iterator) (state_of l.state) (string_bytes l.out)
