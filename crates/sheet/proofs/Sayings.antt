@@ -1,5 +1,5 @@
 -- What a line says, from its words as they were read. Assumes nothing.
-use Rattle.std.proofs.Common.{◌≡◌, ℕ, zero, suc, ◌+◌, ◌≤◌, true, false, eqb, List, [], ◌∷◌, ◌++◌, map, length, get_or, take, drop, Some, None, Option, Ok, Err, Result, sym, refl, ap, ◌∙◌, subst, inl, inr, arith}
+use Rattle.std.proofs.Common.{◌≡◌, ℕ, zero, suc, ◌+◌, ◌≤◌, true, false, eqb, List, [], ◌∷◌, ◌++◌, map, length, get_or, take, drop, Some, None, Option, IfSome, Ok, Err, Result, sym, refl, ap, ◌∙◌, subst, inl, inr, arith}
 use Rattle.limits.proofs.Once.{first_found, first_passed}
 use Rattle.limits.specs.Refusals.{First}
 use Rattle.std.proofs.lemmas.List.{nil_from_length, drop_more, length-take}
@@ -16,7 +16,12 @@ use Rattle.sheet.specs.declared.keyword.Keyword.TheVariants as words
 use Rattle.sheet.specs.declared.keyword.Stage.{Stage}
 use Rattle.sheet.specs.declared.refusal.SheetRefusal.TheVariants.{WordCount, OtherSide}
 use Rattle.std.specs.Result.{IsErrAnd}
-use Rattle.sheet.proofs.Collecting.{numerals_long, numerals_pass}
+use Rattle.sheet.proofs.Collecting.{numerals_long, numerals_pass, words_counted}
+use Rattle.std.specs.Iterator.{Drains}
+use Rattle.std.specs.Option.{MatchOption}
+use Rattle.sheet.specs.Readers.{HandsOut, words_left}
+use Rattle.sheet.specs.declared.lexer.Lexer.{Lexer}
+use Rattle.sheet.specs.declared.token.Token.{Token}
 use Rattle.sheet.proofs.Spelling.{spelled_once}
 
 -- n values from the index i on, one by one
@@ -78,19 +83,35 @@ length_placed p [] = refl
 length_placed p (t ∷ ts) = ap suc (length_placed (p + length t + 1) ts)
 
 -- there are no more words after the first than bytes
-pub arguments_few : (l : SheetLine) → length (arguments l) ≤ length l.text
+arguments_few : (l : SheetLine) → length (arguments l) ≤ length l.text
 arguments_few l = omega (arith, length_placed (l.place + length (pieces 32 l.text).first + 1) (pieces 32 l.text).rest, rest_few 32 l.text)
 
--- the line begins with k, and the words ws follow
-module _ (s : Stage) (l : SheetLine) (k : Keyword) (ws : List SheetWord) (begins : Begins l k) (follow : ws ≡ arguments l) where
-  pub rule_count : (length ws ≡ arity_of k → ⊥) → (f : Fault) → f ≡ record { refusal = WordCount; place = l.place } → First (line_rules s l) (Some f)
-  rule_count other f e = inr (λ none. none k begins, inl ((k, begins, λ same. other (ap length follow ∙ same)), ap Some e))
+-- the line begins with k, and the lexer has the n words after it
+pub record Opened (l : SheetLine) (k : Keyword) (s : Lexer) (n : ℕ) : Type 0 where
+  begins : Begins l k
+  follow : words_left s ≡ arguments l
+  pub many : n ≡ length (words_left s)
 
-  module _ (counted : length ws ≡ arity_of k) where
+pub opened : (l : SheetLine) (o : Option (Keyword × Lexer)) (k : Keyword) (s : Lexer) (n : ℕ) → o ≡ Some (k, s) → MatchOption o ((j : Keyword) → Begins l j → ⊥) (λ p. Begins l p.0) → IfSome o (λ p. words_left p.1 ≡ arguments l)
+    → ((ts : List Token) × Drains HandsOut s ts × (n ≡ length ts)) → Opened l k s n
+opened l o k s n is keyword words ran = record { begins = rw is at keyword; follow = rw is at words; many = words_counted s n ran }
+
+-- there are fewer words than a count holds
+pub words_few : (l : SheetLine) (o : Option (Keyword × Lexer)) (k : Keyword) (s : Lexer) → o ≡ Some (k, s) → IfSome o (λ p. words_left p.1 ≡ arguments l) → length (words_left s) ≤ length l.text
+words_few l o k s is words = let follow : words_left s ≡ arguments l = rw is at words in omega (arith, ap length follow, arguments_few l)
+
+module _ (s : Stage) (l : SheetLine) (k : Keyword) (lexer : Lexer) (n : ℕ) (found : Opened l k lexer n) where
+  abbrev ws : List SheetWord
+  ws = words_left lexer
+
+  pub rule_count : (n ≡ arity_of k → ⊥) → (f : Fault) → f ≡ record { refusal = WordCount; place = l.place } → First (line_rules s l) (Some f)
+  rule_count other f e = inr (λ none. none k found.begins, inl ((k, found.begins, λ same. other (found.many ∙ ap length found.follow ∙ same)), ap Some e))
+
+  module _ (counted : n ≡ arity_of k) where
     past_count : (o : Option Fault) → First (map number_rule ws ++ (stage_rule s l ∷ [])) o → First (line_rules s l) o
     past_count o h =
-        let same : length (arguments l) ≡ arity_of k = sym (ap length follow) ∙ counted in
-        inr (λ none. none k begins, inr (λ x. x.2 (same ∙ ap arity_of (spelled_once k x.0 (sym begins ∙ x.1))), subst (λ us. First (map number_rule us ++ (stage_rule s l ∷ [])) o) follow h))
+        let same : length (arguments l) ≡ arity_of k = sym (found.many ∙ ap length found.follow) ∙ counted in
+        inr (λ none. none k found.begins, inr (λ x. x.2 (same ∙ ap arity_of (spelled_once k x.0 (sym found.begins ∙ x.1))), subst (λ us. First (map number_rule us ++ (stage_rule s l ∷ [])) o) found.follow h))
 
     pub rule_number : (f : Fault) → First (map number_rule ws) (Some f) → (r : Result Command Fault) → IsErrAnd r (λ e. e ≡ f) → Reads s l r
     rule_number f h (Ok c) is = absurd is
@@ -98,11 +119,11 @@ module _ (s : Stage) (l : SheetLine) (k : Keyword) (ws : List SheetWord) (begins
 
     module _ (vs : List ℕ) (numerals : Numerals ws (take (length ws) vs)) where
       pub rule_stage : belongs_in k s ≡ false → (f : Fault) → f ≡ record { refusal = OtherSide; place = l.place } → First (line_rules s l) (Some f)
-      rule_stage other f e = past_count (Some f) (first_passed (map number_rule ws) (stage_rule s l ∷ []) _ (numerals_pass ws _ numerals) (inl ((k, begins, other), ap Some e)))
+      rule_stage other f e = past_count (Some f) (first_passed (map number_rule ws) (stage_rule s l ∷ []) _ (numerals_pass ws _ numerals) (inl ((k, found.begins, other), ap Some e)))
 
       pub rule_none : belongs_in k s ≡ true → (c : Command) → c ≡ command_of k vs → Reads s l (Ok c)
       rule_none here c e = (
-        past_count None (first_passed (map number_rule ws) (stage_rule s l ∷ []) _ (numerals_pass ws _ numerals) (inr (λ x. true≢false (sym here ∙ ap (λ j. belongs_in j s) (spelled_once k x.0 (sym begins ∙ x.1)) ∙ x.2), refl))),
-        subst (Says l) (sym e) (says_read l k vs begins (sym (ap length follow) ∙ counted) (subst (λ us. Numerals us (take (length us) vs)) follow numerals)),
+        past_count None (first_passed (map number_rule ws) (stage_rule s l ∷ []) _ (numerals_pass ws _ numerals) (inr (λ x. true≢false (sym here ∙ ap (λ j. belongs_in j s) (spelled_once k x.0 (sym found.begins ∙ x.1)) ∙ x.2), refl))),
+        subst (Says l) (sym e) (says_read l k vs found.begins (sym (found.many ∙ ap length found.follow) ∙ counted) (subst (λ us. Numerals us (take (length us) vs)) found.follow numerals)),
         ap (λ d. belongs_in (keyword_of d) s) e ∙ ap (λ j. belongs_in j s) (keyword_kept k vs) ∙ here,
       )

@@ -1,5 +1,5 @@
 -- The network that a sheet wires. Assumes nothing.
-use Rattle.std.specs.Prelude.{◌≡◌, ℕ, ◌<◌, ◌≤◌, ◌⊎◌, List, [], ◌∷◌, length, Ok, Err, Result, string_bytes, ◌≢◌}
+use Rattle.std.specs.Prelude.{◌≡◌, ℕ, ◌<◌, ◌≤◌, ◌⊎◌, List, [], ◌∷◌, length, Ok, Err, Result, codes, string_bytes, ◌≢◌}
 use Rattle.network.specs.Views.{closed}
 use Rattle.network.specs.declared.closed.Network.{Network}
 use Rattle.sheet.specs.Keywords.{spelled}
@@ -52,3 +52,8 @@ abbrev pub WireAnswers : List ℕ → Result Network WireError → Type 0
 WireAnswers sheet (Ok n) = Wires sheet (Ok n)
 WireAnswers sheet (Err (errors.Refused out)) = Wires sheet (Err (string_bytes out))
 WireAnswers sheet (Err (errors.OutOfMemory e)) = Unit {0}
+
+-- how the error of a wiring is written
+abbrev pub wire_error_text : WireError → List ℕ
+wire_error_text (errors.Refused out) = string_bytes out
+wire_error_text (errors.OutOfMemory e) = codes "out of memory"

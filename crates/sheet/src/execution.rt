@@ -39,10 +39,8 @@ impl SheetState {
     fn close(&mut self)
         ensures { state_of self.new ≡ record { stage = Closed; net = (state_of self.old).net } }
     {
-        *self = match mem::replace(self, SheetState::new()) {
-            SheetState::Wiring(draft) => SheetState::Closed(draft.close()),
-            closed => closed,
-        };
+        let state = mem::replace(self, SheetState::new());
+        *self = SheetState::Closed(state.into_network());
     }
 
     // Executes a command that belongs at the stage of the sheet.

@@ -37,6 +37,7 @@ pub enum Stage {
 
 impl Keyword {
     /// The keyword that is written so, if there is one.
+    // An `Option` and no `TryFrom`: an error could say no more than that there is none.
     pub fn of(text: &[u8]) -> Option<Keyword>
         ensures { Spells text.now result }
     {

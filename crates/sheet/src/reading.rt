@@ -1,6 +1,6 @@
 //! A line is read word by word, and its first fault found.
 
-ghost use Rattle.std.specs.Prelude.{◌≡◌, ◌≤◌, length, take, map, Some, IfSome, MatchOption, MatchResult};
+ghost use Rattle.std.specs.Prelude.{◌≡◌, ◌≤◌, length, take, map, Some, IfOk, IfErr, IfSome, MatchOption};
 ghost use Rattle.limits.specs.Refusals.{First};
 ghost use Rattle.sheet.specs.Commands.{Begins, Numerals, number_rule};
 ghost use Rattle.sheet.specs.Lines.{arguments};
@@ -15,6 +15,9 @@ use crate::refusal::SheetRefusal;
 use crate::token::Token;
 use network::Numbers;
 
+// The most numbers that follow a keyword.
+const MOST_NUMBERS: usize = 7;
+
 // The keyword that a line begins with, and the words after it.
 fn open<'a>(line: Line<'a>) -> Option<(Keyword, Lexer<'a>)>
     ensures keyword { MatchOption result ((k : Keyword) → Begins (seen_line line.entry) k → ⊥) (λ p. Begins (seen_line line.entry) p.0) }
@@ -25,12 +28,13 @@ fn open<'a>(line: Line<'a>) -> Option<(Keyword, Lexer<'a>)>
     Some((keyword, words))
 }
 
-// The numbers that words are, or the fault of the first word that is none.
-fn numbers(words: Lexer) -> Result<[u32; 7], Fault>
+// The numbers that words are, or the fault of the first word that is none; values past the words mean nothing.
+fn numbers(words: Lexer) -> Result<[u32; MOST_NUMBERS], Fault>
     requires { length (words_left words) ≤ 7 }
-    ensures { MatchResult result (λ values. Numerals (words_left words.entry) (take (length (words_left words.entry)) values)) (λ fault. First (map number_rule (words_left words.entry)) (Some fault)) }
+    ensures values { IfOk result (λ values. Numerals (words_left words.entry) (take (length (words_left words.entry)) values)) }
+    ensures fault { IfErr result (λ fault. First (map number_rule (words_left words.entry)) (Some fault)) }
 {
-    let mut values = [0; 7];
+    let mut values = [0; MOST_NUMBERS];
     for (index, token) in words.enumerate() {
         match token {
             Token::Number(_, value) => values[index] = value,
@@ -41,7 +45,7 @@ fn numbers(words: Lexer) -> Result<[u32; 7], Fault>
 }
 
 // What a keyword and the numbers after it ask for.
-fn command(keyword: Keyword, values: [u32; 7]) -> Command
+fn command(keyword: Keyword, values: [u32; MOST_NUMBERS]) -> Command
     ensures { result ≡ command_of keyword values }
 {
     match keyword {

@@ -1,11 +1,11 @@
 //! The network that a sheet wires, without the lines for the planner.
 
-ghost use Rattle.std.specs.Prelude.{◌≡◌, [], ◌∷◌, ◌++◌, IfOk, OnOk, Decides, string_bytes};
+ghost use Rattle.std.specs.Prelude.{◌≡◌, [], ◌∷◌, ◌++◌, IfOk, Some, OnOk, Decides, string_bytes};
 ghost use Rattle.network.specs.Views.{closed};
 ghost use Rattle.sheet.specs.Readers.{seen_line};
 ghost use Rattle.sheet.specs.Replies.{written};
 ghost use Rattle.sheet.specs.Runs.{state_of};
-ghost use Rattle.sheet.specs.Wirings.{IsReady, LeadsTo, WireAnswers, only_refused};
+ghost use Rattle.sheet.specs.Wirings.{IsReady, LeadsTo, WireAnswers, only_refused, wire_error_text};
 ghost use Rattle.sheet.specs.declared.wiring.WireError.TheVariants.{OutOfMemory};
 
 use crate::line::Line;
@@ -15,6 +15,8 @@ use crate::state::SheetState;
 use crate::whole::{SHEET_MAX, TOO_LONG};
 use network::Network;
 use std::alloc::{AllocError, Global};
+use std::error::Error;
+use std::fmt;
 
 /// Why a sheet wires no network.
 #[derive(Debug, Drop)]
@@ -24,6 +26,19 @@ pub enum WireError {
     /// Memory was wanting.
     OutOfMemory(AllocError),
 }
+
+impl fmt::Display for WireError {
+    ghost output = { λ e. Some (wire_error_text e) };
+
+    fn fmt<W: fmt::Write>(&self, f: &mut fmt::Formatter<W>) -> fmt::Result {
+        match self {
+            WireError::Refused(replies) => f.write_str(replies.as_str()),
+            WireError::OutOfMemory(_) => f.write_str("out of memory"),
+        }
+    }
+}
+
+impl Error for WireError {}
 
 impl From<AllocError> for WireError {
     ghost from_gives = { λ a e. e ≡ OutOfMemory a };
@@ -35,7 +50,7 @@ impl From<AllocError> for WireError {
 
 impl SheetState {
     // The network, closed if it is not yet.
-    fn into_network(self) -> Network
+    pub(crate) fn into_network(self) -> Network
         ensures { closed result ≡ (state_of self).net }
     {
         match self {
@@ -63,6 +78,7 @@ fn push_refused(out: &mut String, reply: Reply) -> Result<(), AllocError>
 }
 
 // Answers the lines of a sheet up to `READY`: the state after them, and the replies that refuse.
+// A loop beside that of `account`: it stops at a line and leaves replies out, which two closures would not say plainer.
 fn answer_wiring(heap: Global, sheet: &[u8]) -> Result<(SheetState, String), AllocError>
     ensures { IfOk result (λ p. LeadsTo sheet.now (state_of p.0) (string_bytes p.1)) }
 {

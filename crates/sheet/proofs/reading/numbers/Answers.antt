@@ -22,10 +22,10 @@ loop-index-preserved c =
     let taken = rw c.in-Number.is at steps.0 in
     one_more _ _ _ _ _ _ c.loop-index.invariant taken.next _ _ _ taken.told few steps.1 steps.2
 
-pub returns-in-Word : goal.returns-in-Word
-returns-in-Word c =
+pub returns-in-Word-clause-fault : goal.returns-in-Word-clause-fault
+returns-in-Word-clause-fault c =
     let taken = rw c.in-Word.is at c.in-Some.ensures.steps.0 in
     bad_word _ _ _ _ _ _ c.loop-index.invariant taken.next taken.told _ c.fault.ensures
 
-pub returns : goal.returns
-returns c = all_read _ _ _ _ c.loop-index.invariant c.in-None.ensures.steps.0.next.0
+pub returns-clause-values : goal.returns-clause-values
+returns-clause-values c = all_read _ _ _ _ c.loop-index.invariant c.in-None.ensures.steps.0.next.0
