@@ -1,5 +1,7 @@
 //! Calls of a book and their answers, as values.
 
+use book::Holding;
+
 /// A call of a book.
 #[derive(Clone, Copy)]
 pub enum Call {
@@ -37,7 +39,7 @@ pub enum Call {
     },
 }
 
-/// What a book answers a call.
+/// What a book answers a call that it does not refuse.
 #[derive(Clone, Copy, PartialEq, Eq, Debug)]
 pub enum Answer {
     /// Whether the tick is free, and how many from it on are alike.
@@ -47,25 +49,13 @@ pub enum Answer {
         /// How many ticks are alike.
         ticks: u32,
     },
-    /// A booking begins at the tick.
-    Held {
-        /// How many ticks it covers.
-        ticks: u32,
-        /// The flow that it is for.
-        flow: u32,
-    },
-    /// No booking begins at the tick.
-    Unheld,
+    /// The booking that begins at the tick, if there is one.
+    Held(Option<Holding>),
     /// The booking is added.
     Booked,
     /// The booking is taken away.
     Released {
         /// How many ticks it covered.
         ticks: u32,
-    },
-    /// The call is refused.
-    Refused {
-        /// The number of the refusal.
-        number: u32,
     },
 }

@@ -5,26 +5,19 @@ ghost use Rattle.bookpair.specs.Draws.{Drawn, stirred};
 
 use crate::call::Call;
 
-/// Draws calls for books of at most 4 links and of some cycle.
+// Numbers that look as if drawn: the state is stirred for each.
 #[derive(Drop)]
-pub struct Draw {
+struct Numbers {
     state: u32,
-    cycle: u32,
 }
 
-impl Draw {
-    /// Draws from a seed on, for a cycle.
-    pub fn new(seed: u32, cycle: u32) -> Draw
-        ensures { (result.state ≡ seed) × (result.cycle ≡ cycle) }
-    {
-        Draw { state: seed, cycle }
-    }
-
+impl Numbers {
     // A number below a bound.
     fn below(&mut self, bound: u32) -> u32
         requires { 0 < bound }
-        ensures drawn { (result ≡ stirred self.old.state / 2 ^ 16 % bound) × (result < bound) }
-        ensures after { (self.new.state ≡ stirred self.old.state) × (self.new.cycle ≡ self.old.cycle) }
+        ensures drawn { result ≡ stirred self.old.state / 2 ^ 16 % bound }
+        ensures bounded { result < bound }
+        ensures after { self.new.state ≡ stirred self.old.state }
     {
         self.state = self
             .state
@@ -35,8 +28,7 @@ impl Draw {
 
     // A link from 0 to 5, mostly one of the four.
     fn link(&mut self) -> u32
-        ensures drawn { result < 6 }
-        ensures kept { self.new.cycle ≡ self.old.cycle }
+        ensures { result < 6 }
     {
         if self.below(4) == 0 {
             self.below(6)
@@ -46,11 +38,10 @@ impl Draw {
     }
 
     // A tick from 0 to one past the cycle, mostly a multiple of 4, so that releases meet bookings.
-    fn tick(&mut self) -> u32
-        ensures drawn { result < self.old.cycle + 2 }
-        ensures kept { self.new.cycle ≡ self.old.cycle }
+    fn tick(&mut self, cycle: u32) -> u32
+        ensures { result < cycle + 2 }
     {
-        let tick = self.below(self.cycle.saturating_add(2));
+        let tick = self.below(cycle.saturating_add(2));
         if self.below(4) == 0 {
             tick
         } else {
@@ -59,15 +50,32 @@ impl Draw {
     }
 
     // A length from 0 to one past the cycle, mostly of 1 to 3 ticks.
-    fn length(&mut self) -> u32
-        ensures drawn { result < self.old.cycle + 2 }
-        ensures kept { self.new.cycle ≡ self.old.cycle }
+    fn length(&mut self, cycle: u32) -> u32
+        ensures { result < cycle + 2 }
     {
         if self.below(8) == 0 {
-            self.below(self.cycle.saturating_add(2))
+            self.below(cycle.saturating_add(2))
         } else {
-            self.cycle.min(1 + self.below(3))
+            cycle.min(1 + self.below(3))
         }
+    }
+}
+
+/// Draws calls for books of at most 4 links and of some cycle.
+#[derive(Drop)]
+pub struct Draw {
+    numbers: Numbers,
+    cycle: u32,
+}
+
+impl Draw {
+    /// Draws from a seed on, for a cycle.
+    pub fn new(seed: u32, cycle: u32) -> Draw
+        ensures seeded { result.numbers.state ≡ seed }
+        ensures cycle { result.cycle ≡ cycle }
+    {
+        let numbers = Numbers { state: seed };
+        Draw { numbers, cycle }
     }
 
     /// The next call: of a link from 0 to 5, at a tick and of a length from 0 to one past the cycle, and for a flow
@@ -76,16 +84,16 @@ impl Draw {
         ensures drawn { Drawn self.old.cycle result }
         ensures kept { self.new.cycle ≡ self.old.cycle }
     {
-        let link = self.link();
-        let tick = self.tick();
-        match self.below(6) {
+        let link = self.numbers.link();
+        let tick = self.numbers.tick(self.cycle);
+        match self.numbers.below(6) {
             0 => Call::Run { link, tick },
             1 => Call::Holder { link, tick },
             2 | 3 => Call::Book {
                 link,
                 start: tick,
-                ticks: self.length(),
-                flow: self.below(50),
+                ticks: self.numbers.length(self.cycle),
+                flow: self.numbers.below(50),
             },
             _ => Call::Release { link, start: tick },
         }

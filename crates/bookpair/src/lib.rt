@@ -14,7 +14,7 @@ pub use draw::Draw;
 #[cfg(test)]
 mod tests {
     use crate::{Answer, Call, Draw, answer, same_answers};
-    use book::Book;
+    use book::{Book, BookRefusal, Holding};
     use chain_book::{Booking, ChainBook};
     use chains::Slot;
     use grid_book::{Cell, GridBook};
@@ -33,16 +33,16 @@ mod tests {
     }
 
     impl Tally {
-        fn add(&mut self, answer: Answer) {
+        fn add(&mut self, answer: Result<Answer, BookRefusal>) {
             let count = match answer {
-                Answer::Booked => &mut self.booked,
-                Answer::Released { .. } => &mut self.released,
-                Answer::Refused { number: 42 } => &mut self.no_such_link,
-                Answer::Refused { number: 43 } => &mut self.out_of_range,
-                Answer::Refused { number: 72 } => &mut self.covered,
-                Answer::Refused { number: 73 } => &mut self.full,
-                Answer::Refused { number: 74 } => &mut self.none_begins,
-                _ => return,
+                Ok(Answer::Booked) => &mut self.booked,
+                Ok(Answer::Released { .. }) => &mut self.released,
+                Ok(_) => return,
+                Err(BookRefusal::NoSuchLink) => &mut self.no_such_link,
+                Err(BookRefusal::OutOfRange) => &mut self.out_of_range,
+                Err(BookRefusal::Covered) => &mut self.covered,
+                Err(BookRefusal::Full) => &mut self.full,
+                Err(BookRefusal::NoneBegins) => &mut self.none_begins,
             };
             *count = count.saturating_add(1);
         }
@@ -111,7 +111,7 @@ mod tests {
     #[test]
     fn roomy_books(rt: HostRuntime) {
         let mut records = [JUNK; 13];
-        let mut cells = [Cell::First { ticks: 3, flow: 9 }; 80];
+        let mut cells = [Cell::First(Holding { ticks: 3, flow: 9 }); 80];
         let mut chain = ChainBook::new(&mut records, 20, 4);
         let mut grid = GridBook::new(&mut cells, 12, 20, 4);
         assert_eq!(rt; grid.room(), 12);

@@ -1,5 +1,6 @@
-use Rattle.bookpair.proofs.Once.{told_alike}
+use Rattle.std.proofs.Common.{rules}
+use Rattle.bookpair.proofs.Once.{same_answer, same_after}
 use Rattle.bookpair.proofs.asked.same_answers.Goals as goal
 
-pub returns : goal.returns
-returns g c = record { told = c.compared.ensures; alike = told_alike _ _ _ _ _ _ (g.met.L.Book.formed c.args.left.now) c.compared.ensures }
+pub returns-else-eq-clause-alike : goal.returns-else-eq-clause-alike
+returns-else-eq-clause-alike g c = let formed = g.met.L.Book.formed c.args.left.now in search (rules, same_answer, same_after)
