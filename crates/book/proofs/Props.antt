@@ -21,7 +21,7 @@ later_prop t (s ∷ ss) a b = λ i. (le_prop a.0 b.0 i, later_prop t ss a.1 b.1 
 fits_prop : {H : ℕ} {s : Span} (a b : Fits H s) → a ≡ b
 fits_prop a b = λ i. record { start = le_prop a.start b.start i; ticks = within_prop a.ticks b.ticks i; flow = within_prop a.flow b.flow i }
 
-orderly_prop : (H : ℕ) (ss : List Span) (a b : Orderly H ss) → a ≡ b
+pub orderly_prop : (H : ℕ) (ss : List Span) (a b : Orderly H ss) → a ≡ b
 orderly_prop H [] a b = refl
 orderly_prop H (s ∷ ss) a b = λ i. (fits_prop a.0 b.0 i, later_prop s.start ss a.1 b.1 i, λ t l c. free_prop H ss t (a.2 t l c) (b.2 t l c) i, orderly_prop H ss a.3 b.3 i)
 

@@ -4,9 +4,8 @@ use Rattle.book.proofs.Offsets.{remainder, round_below, round_offset, offset_sta
 use Rattle.book.proofs.Rows.{covered, own_start}
 use Rattle.book.specs.Calls.{Clashes}
 use Rattle.book.specs.Spans.{Span, Covers, Free, In, Fits, Orderly, Run, offset, round}
-use Rattle.limits.specs.Ranges.{Within}
 use Rattle.std.proofs.lemmas.Bool.{cases_lt}
-use Rattle.chain_book.specs.Scans.{Overlaps, CoveredFor, BookedFor, Gap}
+use Rattle.chain_book.specs.Scans.{Placed, Overlaps, CoveredFor, BookedFor, Gap}
 
 -- two ticks that come after a third
 offset_between : (H a b t : ℕ) → a < H → b < H → t < H → offset H b t ≤ offset H a t → offset H a b ≡ offset H a t - offset H b t
@@ -43,11 +42,6 @@ opposite H s t j sl tl l =
 -- the tick itself
 pub round_none : (H t : ℕ) → t < H → round H t 0 ≡ t
 round_none H t l = ap (λ n. n % H) (add-zero t) ∙ mod-eq_of_lt l
-
--- what fits, without its flow
-pub record Placed (H : ℕ) (s : Span) : Type 0 where
-  pub start : s.start < H
-  pub ticks : Within 1 H s.ticks
 
 own : (H : ℕ) (s : Span) → Placed H s → Covers H s s.start
 own H s p = subst (λ n. n < s.ticks) (sym (offset_start H s.start p.start)) p.ticks.least
@@ -193,3 +187,10 @@ free_run H ss t k tl o free g = record {
         let same : s.start ≡ t = offset_zero H t tl s.start fits.start (omega (arith, e)) in
         absurd (covered H ss s t here (subst (Covers H s) same (own_start H s fits)) free))
         (cases_lt 0 k)
+
+-- the same gap, and the same freedom from clashes, by another word for the cycle and for the bookings
+pub gap_at : (G H : ℕ) (rs ss : List Span) (t k : ℕ) → G ≡ H → rs ≡ ss → Gap G rs t k → Gap H ss t k
+gap_at G H rs ss t k e f g = subst (λ (n : ℕ). Gap n ss t k) e (subst (λ xs. Gap G xs t k) f g)
+
+pub clear_at : (G H : ℕ) (rs ss : List Span) (a : Span) → G ≡ H → rs ≡ ss → (Clashes G rs a → ⊥) → Clashes H ss a → ⊥
+clear_at G H rs ss a e f clear = subst (λ (n : ℕ). Clashes n ss a → ⊥) e (subst (λ xs. Clashes G xs a → ⊥) f clear)

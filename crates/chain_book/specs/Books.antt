@@ -1,17 +1,11 @@
 -- What chains of booking records stand for. Assumes nothing.
 use Rattle.std.specs.Prelude.{◌≡◌, ℕ, ◌≤◌, List, [], ◌∷◌, map, length, take, drop}
 use Rattle.book.specs.Bare.{InRange}
-use Rattle.book.specs.Calls.{Clashes, link_rule}
-use Rattle.book.specs.Meanings.{Meaning, Formed, row}
-use Rattle.book.specs.Spans.{Span, Fits}
-use Rattle.book.specs.declared.refusal.BookRefusal.{BookRefusal}
-use Rattle.book.specs.declared.refusal.BookRefusal.TheVariants.{OutOfRange, Covered}
-use Rattle.chains.specs.Boards.{Kept, stored}
+use Rattle.book.specs.Meanings.{Meaning, Formed}
+use Rattle.book.specs.Spans.{Span}
 use Rattle.chains.specs.Calls.{Content}
 use Rattle.chains.specs.Records.{total as records_in}
-use Rattle.chains.specs.declared.board.Board.{Board}
 use Rattle.limits.specs.Ranges.{link_max, room_max}
-use Rattle.limits.specs.Refusals.{Rule}
 use Rattle.chain_book.specs.Bookings.{spans_of}
 use Rattle.chain_book.specs.declared.booking.Booking.{Booking}
 
@@ -30,16 +24,3 @@ pub record Sound (cycle links : ℕ) (m : Content Booking) : Type 0 where
   pub limited : m.room ≤ room_max
   pub formed : Formed (means cycle links m)
   pub elsewhere : records_in (drop links m.rows) ≡ 0
-
--- the same, of the board that the chains lie in
-pub record Held {N : ℕ} (cycle links : ℕ) (board : Board Booking N) : Type 0 where
-  pub kept : Kept link_max board
-  pub sound : Sound cycle links (stored board)
-
--- when a booking is refused for itself and not for want of room, in order
-abbrev pub clash_rules : Meaning → ℕ → Span → List (Rule BookRefusal)
-clash_rules m link s =
-    link_rule m link
-    ∷ record { when = Fits m.cycle s → ⊥; give = OutOfRange }
-    ∷ record { when = Clashes m.cycle (row m link) s; give = Covered }
-    ∷ []

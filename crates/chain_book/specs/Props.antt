@@ -4,9 +4,9 @@ use Rattle.std.specs.Prelude.{◌≡◌, ℕ}
 use Rattle.std.proofs.Math.Bridge.{le_prop}
 use Rattle.std.proofs.Math.Nat.{ℕ_set}
 use Rattle.book.proofs.Props.{within_prop, formed_prop}
-use Rattle.chains.proofs.Props.{kept_prop}
 use Rattle.chains.specs.Calls.{Content}
-use Rattle.chain_book.specs.Books.{Sound, Held}
+use Rattle.chains.specs.Views.{content}
+use Rattle.chain_book.specs.Books.{Sound}
 use Rattle.chain_book.specs.declared.booking.Booking.{Booking}
 use Rattle.chain_book.specs.declared.chain_book.ChainBook.{ChainBook}
 
@@ -20,5 +20,5 @@ sound_prop cycle links m a b = λ i. record {
 }
 
 -- every chain book is sound
-pub held_of : (b : ChainBook) → Held b.cycle b.links b.board
-held_of b = ∥∥₁_elim b.held (λ x y i. record { kept = kept_prop _ _ x.kept y.kept i; sound = sound_prop _ _ _ x.sound y.sound i }) (λ h. h)
+pub sound_of : (b : ChainBook) → Sound b.extent.cycle b.extent.links (content b.chains)
+sound_of b = ∥∥₁_elim b.sound (sound_prop _ _ _) (λ s. s)

@@ -1,6 +1,12 @@
 -- What a pass along the bookings of a link tells. Assumes nothing.
 use Rattle.std.specs.Prelude.{◌≡◌, ℕ, ◌<◌, ◌≤◌, List}
+use Rattle.limits.specs.Ranges.{Within}
 use Rattle.book.specs.Spans.{Span, Covers, Free, In, offset, round}
+
+-- a booking fits a cycle, whatever flow it is for
+pub record Placed (H : ℕ) (s : Span) : Type 0 where
+  pub start : s.start < H
+  pub ticks : Within 1 H s.ticks
 
 -- two bookings share a tick
 abbrev pub Overlaps : ℕ → Span → Span → Type 0

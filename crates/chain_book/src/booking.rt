@@ -1,5 +1,8 @@
 //! Booking records.
 
+ghost use Rattle.std.specs.Prelude.{◌≡◌};
+
+use book::Holding;
 use chains::Keyed;
 
 /// A booking as it is kept in a chain: the chain of its link has it by its start.
@@ -18,5 +21,17 @@ impl Keyed for Booking {
 
     fn key(&self) -> u32 {
         self.start
+    }
+}
+
+/// How long the booking lasts, and for whom.
+impl From<Booking> for Holding {
+    ghost from_gives = { λ b h. h ≡ record { ticks = b.ticks; flow = b.flow } };
+
+    fn from(booking: Booking) -> Holding {
+        Holding {
+            ticks: booking.ticks,
+            flow: booking.flow,
+        }
     }
 }

@@ -1,59 +1,101 @@
 //! The calls of a chain book.
 
+ghost use Rattle.std.specs.Prelude.{◌≡◌, ◌<◌};
+ghost use Rattle.book.specs.Meanings.{row};
+ghost use Rattle.chain_book.specs.Bookings.{spans_of};
+ghost use Rattle.chain_book.specs.Scans.{BookedFor};
 ghost use Rattle.chain_book.specs.Views.{meaning_of};
-ghost use Rattle.chain_book.specs.Props.{held_of};
+ghost use Rattle.chain_book.specs.Props.{sound_of};
+ghost use Rattle.chains.specs.Views.{left_of};
+ghost use Rattle.limits.specs.Ranges.{Within};
 
 use crate::booking::Booking;
 use crate::chain_book::ChainBook;
+use crate::pass::Pass;
 use book::{Book, BookRefusal, Holding};
+
+impl ChainBook<'_> {
+    // A pass along the bookings of a link.
+    fn pass(&self, link: u32) -> Pass<'_>
+        requires { Within 1 self.now.extent.links link }
+        ensures bookings { spans_of (left_of result.ahead) ≡ row (meaning_of self.now) link }
+        ensures cycle { result.cycle ≡ self.now.extent.cycle }
+    {
+        Pass {
+            ahead: self.chains.walk(link),
+            cycle: self.extent.cycle,
+        }
+    }
+
+    // How many ticks from a tick on are covered.
+    fn booked_for(&self, link: u32, tick: u32) -> u32
+        requires there { Within 1 self.now.extent.links link }
+        requires inside { tick < self.now.extent.cycle }
+        ensures { BookedFor self.now.extent.cycle (row (meaning_of self.now) link) tick result }
+    {
+        let mut run = 0;
+        loop {
+            let reach = self.pass(link).extend(tick, run);
+            if reach == run {
+                return run;
+            }
+            run = reach;
+        }
+    }
+}
 
 impl Book for ChainBook<'_> {
     ghost meaning = { meaning_of };
 
-    ghost formed = { λ b. (held_of b).sound.formed };
+    ghost formed = { λ b. (sound_of b).formed };
 
     fn cycle(&self) -> u32 {
-        self.cycle
+        self.extent.cycle
     }
 
     fn links(&self) -> u32 {
-        self.links
+        self.extent.links
     }
 
     fn room(&self) -> u32 {
-        self.most()
+        self.chains.room() as u32
     }
 
     fn count(&self) -> u32 {
-        self.standing()
+        self.chains.count() as u32
     }
 
     fn run(&self, link: u32, tick: u32) -> Result<(bool, u32), BookRefusal> {
-        match self.refusal(link, tick) {
-            Some(refusal) => Err(refusal),
-            None => Ok(self.run_at(link, tick)),
+        self.extent.check_tick(link, tick)?;
+        let booked = self.booked_for(link, tick);
+        if booked > 0 {
+            return Ok((false, booked));
         }
+        Ok((true, self.pass(link).gap(tick)))
     }
 
     fn holder(&self, link: u32, tick: u32) -> Result<Option<Holding>, BookRefusal> {
-        match self.refusal(link, tick) {
-            Some(refusal) => Err(refusal),
-            None => Ok(self.begun_at(link, tick)),
-        }
+        self.extent.check_tick(link, tick)?;
+        let found = self.chains.find(link, tick);
+        Ok(found.ok().map(Holding::from))
     }
 
     fn book(&mut self, link: u32, start: u32, ticks: u32, flow: u32) -> Result<(), BookRefusal> {
+        let holding = Holding { ticks, flow };
+        self.extent.check_booking(link, start, holding)?;
         let booking = Booking { start, ticks, flow };
-        match self.clash(link, booking) {
-            Some(refusal) => Err(refusal),
-            None => self.add(link, booking),
+        if self.pass(link).clashes(booking) {
+            return Err(BookRefusal::Covered);
         }
+        let added = self.chains.insert(link, booking);
+        added.map_err(|_| BookRefusal::Full)
     }
 
     fn release(&mut self, link: u32, start: u32) -> Result<u32, BookRefusal> {
-        match self.refusal(link, start) {
-            Some(refusal) => Err(refusal),
-            None => self.take(link, start),
-        }
+        self.extent.check_tick(link, start)?;
+        let removed = self.chains.remove(link, start);
+        removed
+            .map(|booking| booking.ticks)
+            .map_err(|_| BookRefusal::NoneBegins)
     }
 }

@@ -1,9 +1,11 @@
 //! What a chain book is.
 
-ghost use Rattle.chain_book.specs.Books.{Held};
+ghost use Rattle.chain_book.specs.Books.{Sound};
+ghost use Rattle.chains.specs.Views.{content};
 
 use crate::booking::Booking;
-use chains::Board;
+use book::Extent;
+use chains::Chains;
 use limits::LINK_MAX;
 
 // A chain for each link that a book may have.
@@ -12,8 +14,7 @@ pub(crate) const CHAINS: usize = LINK_MAX as usize;
 /// A book that keeps its bookings in chains over lent records, one chain for each link.
 #[derive(Drop)]
 pub struct ChainBook<'a> {
-    pub(crate) board: Board<'a, Booking, CHAINS>,
-    pub(crate) cycle: u32,
-    pub(crate) links: u32,
-    ghost held: { ∥ Held cycle links board ∥₁ },
+    pub(crate) chains: Chains<'a, Booking, CHAINS>,
+    pub(crate) extent: Extent,
+    ghost sound: { ∥ Sound extent.cycle extent.links (content chains) ∥₁ },
 }

@@ -5,8 +5,8 @@
 mod booking;
 mod calls;
 mod chain_book;
-mod keep;
 mod make;
+mod pass;
 mod scan;
 
 pub use booking::Booking;
