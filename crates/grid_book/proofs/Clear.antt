@@ -1,5 +1,5 @@
 -- A grid of free cells. Assumes nothing.
-use Rattle.std.proofs.Common.{◌≡◌, ℕ, zero, suc, ◌+◌, ◌*◌, List, [], ◌∷◌, take, drop, replicate, sym, refl, ap, ◌∙◌, subst}
+use Rattle.std.proofs.Common.{◌≡◌, ℕ, zero, suc, ◌+◌, ◌*◌, List, [], ◌∷◌, length, take, drop, replicate, sym, refl, ap, ◌∙◌, subst}
 use Rattle.book.specs.Empty.{empty_formed, empty_total}
 use Rattle.book.specs.Bare.{empty}
 use Rattle.book.specs.Meanings.{Formed, total}
@@ -45,13 +45,17 @@ free_marked H place cells h t l =
     (λ _. subst (λ ss. Free H ss t) (sym (free_spans 0 (cells_of H place cells) row)) tt, λ _. ap is_free (row t))
 
 -- a grid of free cells is sound, and stands for the empty book
-pub free_means : (n cycle links room : ℕ) → means cycle links room (replicate n free_cell) ≡ empty cycle links room
-free_means n cycle links room = ap (λ rs. record { cycle = cycle; links = links; room = room; rows = rs }) (free_rows cycle links (replicate n free_cell) (all_free n))
+pub free_means : (n cycle links room : ℕ) (cells : List Cell) → cells ≡ replicate n free_cell → means cycle links room cells ≡ empty cycle links room
+free_means n cycle links room cells free =
+    subst (λ cs. means cycle links room cs ≡ empty cycle links room) (sym free)
+    (ap (λ rs. record { cycle = cycle; links = links; room = room; rows = rs }) (free_rows cycle links (replicate n free_cell) (all_free n)))
 
-pub free_sound : (n cycle links room : ℕ) → Sized n cycle links room → Sound cycle links room 0 (replicate n free_cell)
-free_sound n cycle links room sized = record {
-  sized = subst (λ k. Sized k cycle links room) (sym (length-replicate n free_cell)) sized;
-  formed = subst Formed (sym (free_means n cycle links room)) (empty_formed cycle links room);
-  counted = sym (ap total (free_rows cycle links (replicate n free_cell) (all_free n)) ∙ empty_total links);
-  marked = λ place _. free_marked cycle place (replicate n free_cell) (all_free n);
-}
+pub free_sound : (n cycle links room : ℕ) (cells : List Cell) → cells ≡ replicate n free_cell → Sized n cycle links room → Sound cycle links room 0 cells
+free_sound n cycle links room cells free sized =
+    let is = free_means n cycle links room cells free in
+    record {
+      sized = subst (λ k. Sized k cycle links room) (sym (ap length free ∙ length-replicate n free_cell)) sized;
+      formed = subst Formed (sym is) (empty_formed cycle links room);
+      counted = sym (ap (λ m. total m.rows) is ∙ empty_total links);
+      marked = λ place _. subst (λ cs. Marked cycle (cells_of cycle place cs)) (sym free) (free_marked cycle place (replicate n free_cell) (all_free n));
+    }

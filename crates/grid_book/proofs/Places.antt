@@ -1,8 +1,8 @@
 -- The rows of a grid by their places, and a grid with one row changed. Assumes nothing.
-use Rattle.std.proofs.Common.{◌≡◌, ℕ, zero, suc, ◌+◌, ◌-◌, ◌*◌, ◌<◌, ◌≤◌, min, List, [], ◌++◌, length, get_or, take, drop, set, sym, refl, ap, ◌∙◌, subst, ⊎_elim, suc-mul, add_comm, zero-mul, arith}
+use Rattle.std.proofs.Common.{◌≡◌, ℕ, zero, suc, ◌+◌, ◌-◌, ◌*◌, ◌<◌, ◌≤◌, List, [], ◌++◌, length, get_or, take, drop, set, sym, refl, ap, ◌∙◌, subst, ⊎_elim, suc-mul, add_comm, zero-mul, arith}
 use borrow.Rule.Slice.PartMut.{put_mid}
 use Rattle.std.proofs.lemmas.Nat.{mul-le}
-use Rattle.std.proofs.lemmas.List.{length-set, length-append, length-take-le, length-drop, get_or-set_same, get_or-set_other, take_all, drop-drop, drop-take, drop_all, ext_get_or}
+use Rattle.std.proofs.lemmas.List.{length-set, length-append, length-take-le, length-drop, get_or-set_same, get_or-set_other, drop-drop, drop-take, ext_get_or}
 use Rattle.std.proofs.lemmas.Slice.{take-put_mid_below, drop-put_mid, between-put_mid}
 use Rattle.std.proofs.lemmas.Bool.{cases_lt, cases_eq}
 use Rattle.grid_book.specs.declared.cell.Cell.{Cell}
@@ -10,25 +10,6 @@ use Rattle.grid_book.specs.Cells.{spans}
 use Rattle.grid_book.specs.Grids.{cells_of, rows_of, RowPainted}
 use Rattle.grid_book.specs.Rows.{Painted}
 use Rattle.limits.specs.Ranges.{Within}
-
--- a row as far as there are cells
-pub clipped : (b H from to : ℕ) (xs : List Cell) → from ≡ min b (length xs) → to ≡ min (from + H) (length xs) → take (to - from) (drop from xs) ≡ take H (drop b xs)
-clipped b H from to xs f t =
-    ⊎_elim
-    (λ past.
-    let start : from ≡ length xs = omega arith in
-    let nothing : drop from xs ≡ [] = drop_all from xs (omega arith) in
-    let none : drop b xs ≡ [] = drop_all b xs (omega arith) in
-    ap (take (to - from)) nothing ∙ take_all (to - from) [] (omega arith) ∙ sym (take_all H [] (omega arith)) ∙ ap (take H) (sym none))
-    (λ inside.
-    let start : from ≡ b = omega arith in
-    let rest : length (drop b xs) ≡ length xs - b = length-drop b xs in
-    ap (λ n. take (to - from) (drop n xs)) start
-    ∙ ⊎_elim
-    (λ short. take_all (to - from) (drop b xs) (omega arith) ∙ sym (take_all H (drop b xs) (omega arith)))
-    (λ long. ap (λ n. take n (drop b xs)) (let whole : to - from ≡ H = omega arith in whole))
-    (cases_lt (length xs) (b + H)))
-    (cases_lt (length xs) b)
 
 pub rows_length : (H links : ℕ) (cells : List Cell) → length (rows_of H links cells) ≡ links
 rows_length H zero cells = refl
