@@ -37,7 +37,8 @@ pub fn answer<B: Book>(book: &mut B, call: Call) -> Result<Answer, BookRefusal>
 /// that mean the same are, and they mean the same after.
 pub fn same_answers<L: Book, R: Book>(left: &mut L, right: &mut R, call: Call) -> bool
     ensures told { Compares (L.Book.meaning left.old) (R.Book.meaning right.old) call result (L.Book.meaning left.new) (R.Book.meaning right.new) }
-    ensures alike { L.Book.meaning left.old ≡ R.Book.meaning right.old → (result ≡ true) × (L.Book.meaning left.new ≡ R.Book.meaning right.new) }
+    ensures alike { L.Book.meaning left.old ≡ R.Book.meaning right.old → result ≡ true }
+    ensures after { L.Book.meaning left.old ≡ R.Book.meaning right.old → L.Book.meaning left.new ≡ R.Book.meaning right.new }
 {
     answer(left, call) == answer(right, call) && left.count() == right.count()
 }
