@@ -67,7 +67,7 @@ each_fits H (x ∷ xs) s o (inl e) = subst (Fits H) (sym e) o.0
 each_fits H (x ∷ xs) s o (inr there) = each_fits H xs s o.3 there
 
 -- a tick that none of these covers is free
-free_from : (H : ℕ) (ss : List Span) (t : ℕ) → ((s : Span) → In s ss → Covers H s t → ⊥) → Free H ss t
+pub free_from : (H : ℕ) (ss : List Span) (t : ℕ) → ((s : Span) → In s ss → Covers H s t → ⊥) → Free H ss t
 free_from H [] t none = tt
 free_from H (x ∷ xs) t none = (none x (inl refl), free_from H xs t (λ s h. none s (inr h)))
 
@@ -84,10 +84,6 @@ among_rest ss rest all s e among x h = among x (subst (In x) (sym e) (inr h))
 -- a booking among these that overlaps another clashes with it
 pub clash_here : (H : ℕ) (ss : List Span) (a s : Span) → In s ss → Overlaps H a s → Clashes H ss a
 clash_here H ss a s here (t, l, x, y) = (t, l, x, λ free. covered H ss s t here y free)
-
--- one that does not is passed
-pub clash_on : (H : ℕ) (rest all : List Span) (a s : Span) → all ≡ s ∷ rest → (Overlaps H a s → ⊥) → Clashes H all a → Clashes H rest a
-clash_on H rest all a s e apart (t, l, x, taken) = (t, l, x, λ free. taken (subst (λ rs. Free H rs t) (sym e) (λ y. apart (t, l, x, y), free)))
 
 -- the ticks of a booking that covers the next tick are covered
 pub covered_more : (H : ℕ) (ss : List Span) (t k : ℕ) (s : Span) → t < H → k < H → In s ss → Fits H s → Covers H s (round H t k) → CoveredFor H ss t k → CoveredFor H ss t (min (k + s.ticks - offset H s.start (round H t k)) H)
@@ -125,24 +121,6 @@ extending_past H ss t k s rest all reach on e off = record {
   least = e.least;
   most = e.most;
   passed = λ same kl free. e.passed same kl (subst (λ rs. Free H rs (round H t k)) (sym on) (subst (λ n. Covers H s (round H t n) → ⊥) same (off (omega arith)), free));
-}
-
--- the least distance so far
-pub record Nearing (H : ℕ) (ss : List Span) (t : ℕ) (rest : List Span) (k : ℕ) : Type 0 where
-  pub among : Among rest ss
-  pub before : (s : Span) → In s ss → In s rest ⊎ (k ≤ offset H t s.start)
-  pub most : k ≤ H
-  pub begins : k < H → (s : Span) × In s ss × (offset H t s.start ≡ k)
-
-pub nearing_next : (H : ℕ) (ss : List Span) (t : ℕ) (s : Span) (rest all : List Span) (k : ℕ) → all ≡ s ∷ rest → Nearing H ss t all k → (nearer : ℕ) → nearer ≡ min k (offset H t s.start) → Nearing H ss t rest nearer
-nearing_next H ss t s rest all k on n nearer is = record {
-  among = among_rest ss rest all s on n.among;
-  before = λ x h. ⊎_elim (λ there. ⊎_elim (λ e. inr (omega (arith, ap (λ y. offset H t y.start) e))) (λ r. inl r) (subst (In x) on there)) (λ le. inr (omega arith)) (n.before x h);
-  most = omega (arith, n.most);
-  begins = λ l. ⊎_elim
-      (λ less. let (x, here, e) = n.begins (omega arith) in (x, here, omega (arith, e)))
-      (λ le. (s, among_first ss rest all s on n.among, omega arith))
-      (cases_lt k (offset H t s.start));
 }
 
 -- covered ticks, as many as there are, are the run

@@ -37,13 +37,8 @@ impl Pass<'_> {
         requires { Placed self.cycle (to_span booking) }
         ensures { Decides result (Clashes self.entry.cycle (spans_of (left_of self.entry.ahead)) (to_span booking)) }
     {
-        let Pass { ahead, cycle } = self;
-        for other in ahead {
-            if overlap(cycle, booking, other) {
-                return true;
-            }
-        }
-        false
+        let Pass { mut ahead, cycle } = self;
+        ahead.any(|other| overlap(cycle, booking, other))
     }
 
     // How far the bookings ahead show the ticks from a tick on to be covered, of which so many are.
@@ -69,10 +64,9 @@ impl Pass<'_> {
         ensures { Gap self.entry.cycle (spans_of (left_of self.entry.ahead)) tick result }
     {
         let Pass { ahead, cycle } = self;
-        let mut least = cycle;
-        for booking in ahead {
-            least = least.min(ticks_after(cycle, tick, booking.start));
-        }
-        least
+        ahead
+            .map(|booking| ticks_after(cycle, tick, booking.start))
+            .min()
+            .unwrap_or(cycle)
     }
 }

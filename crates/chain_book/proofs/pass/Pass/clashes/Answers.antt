@@ -1,24 +1,21 @@
-use Rattle.std.proofs.Common.{refl, ap}
-use Rattle.std.proofs.lemmas.Bool.Decides.{not_from_Decides}
-use Rattle.chain_book.specs.Bookings.{spans_of, to_span}
-use Rattle.chain_book.proofs.Passes.{fits_here}
-use Rattle.chain_book.proofs.Scanning.{among_first, among_rest, clash_here, clash_on}
+use Rattle.std.proofs.Common.{refl, rules}
+use Rattle.std.proofs.lemmas.Iterator.{cases_from_any}
+use Rattle.std.proofs.lemmas.Iterator.Adapters.{serves_from_places}
+use Rattle.std.proofs.lemmas.Iterator.Consumers.{YieldsList-from_first}
+use Rattle.chains.specs.Views.{left_of}
+use Rattle.chain_book.specs.Bookings.{to_span}
+use Rattle.chain_book.specs.Scans.{Placed, Overlaps}
+use Rattle.chain_book.proofs.Passes.{fits_at, clash_any}
 use Rattle.chain_book.proofs.pass.Pass.clashes.Goals as goal
 
-pub overlap-requires-clause-second : goal.overlap-requires-clause-second
-overlap-requires-clause-second c =
-    let fits = fits_here c.args.self _ _ _ (ap spans_of c.in-Some.ensures.steps) c.loop-other.invariant.among in
-    record { start = fits.start; ticks = fits.ticks }
+pub any-requires-clause-callable : goal.any-requires-clause-callable
+any-requires-clause-callable c =
+    serves_from_places (YieldsList-from_first (λ x. x) left_of (left_of c.args.self.ahead) refl) (λ x q k. search rules)
+    (λ x k l e. let fits = fits_at c.args.self k x l e in let placed : Placed c.args.self.cycle (to_span x) = record { start = fits.start; ticks = fits.ticks } in search rules)
 
-pub returns-then-overlap : goal.returns-then-overlap
-returns-then-overlap c =
-    let on = ap spans_of c.in-Some.ensures.steps in
-    (λ _. clash_here c.args.self.cycle _ (to_span c.args.booking) (to_span c.in-Some.other) (among_first _ _ _ _ on c.loop-other.invariant.among) (c.overlap.ensures.0 c.if-overlap.true), λ _. refl)
-
-pub loop-other-preserved : goal.loop-other-preserved
-loop-other-preserved c =
-    let on = ap spans_of c.in-Some.ensures.steps in
-    record {
-      among = among_rest _ _ _ _ on c.loop-other.invariant.among;
-      clash = λ clash. clash_on c.args.self.cycle _ _ (to_span c.args.booking) _ on (not_from_Decides c.overlap.result c.overlap.ensures c.if-overlap.false) (c.loop-other.invariant.clash clash);
-    }
+pub returns : goal.returns
+returns c =
+    let H = c.args.self.cycle in
+    let a = to_span c.args.booking in
+    clash_any H (left_of c.args.self.ahead) a c.any.result
+    (cases_from_any c.any.new.self _ c.any.result (λ b. Overlaps H a (to_span b)) (λ b. Overlaps H a (to_span b) → ⊥) c.any.ensures.ran (YieldsList-from_first (λ x. x) left_of (left_of c.args.self.ahead) refl) (λ x q k. search rules) (λ x q k. (search rules, search rules)))
