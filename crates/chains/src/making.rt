@@ -1,6 +1,6 @@
 //! Newly made chains.
 
-ghost use Rattle.std.specs.Prelude.{◌≡◌, ℕ, ◌<◌, length, slice_index};
+ghost use Rattle.std.specs.Prelude.{◌≡◌, ℕ, ◌<◌, ◌≤◌, length, slice_index};
 ghost use Rattle.chains.specs.Calls.{no_records};
 ghost use Rattle.chains.specs.Laws.{ChainLaws};
 ghost use Rattle.chains.specs.Places.{nexts};
@@ -11,19 +11,12 @@ use crate::board::Board;
 use crate::chains::Chains;
 use crate::slot::{Keyed, Slot};
 
-// The link of a slot while all slots are spare: to the next one, if there is one.
+// The place of the slot after `place` while all of so many slots are spare, or 0.
 fn blank_link(place: usize, len: usize) -> usize
-    requires { place < len }
+    requires { place ≤ len }
     ensures { result ≡ blank len place }
 {
-    if place + 1 < len { place + 1 } else { 0 }
-}
-
-// The first spare slot while all slots are spare.
-fn first_spare(len: usize) -> usize
-    ensures { result ≡ blank len 0 }
-{
-    if len > 1 { 1 } else { 0 }
+    if len - place > 1 { place + 1 } else { 0 }
 }
 
 // Links all slots in turn.
@@ -43,7 +36,7 @@ impl<'a, R: Keyed, const N: usize> Chains<'a, R, N> {
         ensures laws { ChainLaws R.Keyed.keyed }
     {
         clear(slots);
-        let spare = first_spare(slots.len());
+        let spare = blank_link(0, slots.len());
         Chains {
             board: Board {
                 slots,

@@ -9,7 +9,7 @@ use Rattle.chains.proofs.chains.Chains.new.Goals as goal
 
 pub invariant_of-result : goal.invariant_of-result
 invariant_of-result g c = record {
-  kept = ∣ blank_kept g.row.N _ refl (length-replicate g.row.N 0) (λ k l. c.clear.ensures k (omega (arith, c.clear.auto.slots)) ∙ ap (λ n. blank n k) (sym c.clear.auto.slots)) c.first_spare-spare.ensures refl ∣₁;
+  kept = ∣ blank_kept g.row.N _ refl (length-replicate g.row.N 0) (λ k l. c.clear.ensures k (omega (arith, c.clear.auto.slots)) ∙ ap (λ n. blank n k) (sym c.clear.auto.slots)) c.blank_link-spare.ensures refl ∣₁;
   ordered = ∣ subst (AllAscend g.R.Keyed.keyed) (sym (ap (λ m. m.rows) (blank_content g.row.N c.clear.new.slots))) (none_ascend g.R.Keyed.keyed g.row.N) ∣₁;
 }
 
