@@ -19,7 +19,7 @@ use Rattle.limits.proofs.Once.{none_hold}
 use Rattle.limits.specs.Ranges.{Within, link_max, room_max}
 use Rattle.limits.specs.Refusals.{First}
 use Rattle.std.proofs.lemmas.List.{get_or-take, get_or-map, length-map, drop-set-lt, map-set}
-use Rattle.std.proofs.lemmas.Bool.{cases_Bool, cases_lt, cond-true, cond-false}
+use Rattle.std.proofs.lemmas.Bool.{cases_Bool, cond-true, cond-false}
 use Rattle.chain_book.specs.Bookings.{to_span, spans_of}
 use Rattle.chain_book.specs.Books.{rows_of, means, Sound}
 use Rattle.chain_book.specs.Made.{Made}

@@ -1,5 +1,5 @@
 -- What chains of booking records stand for. Assumes nothing.
-use Rattle.std.specs.Prelude.{◌≡◌, ℕ, ◌≤◌, List, [], ◌∷◌, map, length, take, drop}
+use Rattle.std.specs.Prelude.{◌≡◌, ℕ, ◌≤◌, List, map, length, take, drop}
 use Rattle.book.specs.Bare.{InRange}
 use Rattle.book.specs.Meanings.{Meaning, Formed}
 use Rattle.book.specs.Spans.{Span}

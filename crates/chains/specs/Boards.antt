@@ -57,6 +57,15 @@ pub record Rewritten {R : Type 0} {N : ℕ} (b : Board R N) (place : ℕ) (r : R
   pub spare : after.spare ≡ b.spare
   pub count : after.count ≡ b.count
 
+-- a place follows the place at of the chain c, or comes first in it; nothing else is changed
+pub record Led {R : Type 0} {N : ℕ} (b : Board R N) (c at place : ℕ) (after : Board R N) : Type 0 where
+  pub many : length (slots_of after) ≡ length (slots_of b)
+  pub links : nexts (slots_of after) ≡ relinked (nexts (slots_of b)) at place
+  pub items : values (slots_of after) ≡ values (slots_of b)
+  pub heads : after.heads ≡ retopped b.heads c at place
+  pub spare : after.spare ≡ b.spare
+  pub count : after.count ≡ b.count
+
 -- the first spare slot takes a record and is linked in
 pub record Hung {R : Type 0} {N : ℕ} (b : Board R N) (c at next : ℕ) (r : R) (after : Board R N) : Type 0 where
   pub heads : after.heads ≡ retopped b.heads c at b.spare

@@ -1,5 +1,5 @@
 -- What each call of the chains answers and leaves. Assumes nothing.
-use Rattle.std.specs.Prelude.{◌≡◌, ℕ, ◌-◌, ◌≤◌, List, [], ◌∷◌, length, replicate, Some, None, Ok, Err, Option, Result, slice_set}
+use Rattle.std.specs.Prelude.{◌≡◌, ℕ, ◌-◌, ◌≤◌, List, [], ◌∷◌, length, replicate, Some, None, Ok, Err, Result, slice_set}
 use Rattle.limits.specs.Ranges.{Within}
 use Rattle.limits.specs.Refusals.{Rule, First}
 use Rattle.chains.specs.Records.{Lacks, FirstWith, insert, without, replace, total, row}

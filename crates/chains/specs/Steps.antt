@@ -47,11 +47,12 @@ pub record Located {R : Type 0} (answers : ℕ → Bool → Type 0) (key : R →
   pub reached : Reached answers key nx vs p at next
   pub stopped : Stopped answers key (records vs reached.after)
 
--- the test of a key against k by itself: whether it is up to k, and whether it is another
+-- what a test answers whether a key is up to k
 abbrev pub UpTo : ℕ → ℕ → Bool → Type 0
 UpTo k own true = own ≤ k
 UpTo k own false = k < own
 
+-- what a test answers whether a key is another than k
 abbrev pub Other : ℕ → ℕ → Bool → Type 0
 Other k own true = own ≢ k
 Other k own false = own ≡ k

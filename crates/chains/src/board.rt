@@ -1,7 +1,7 @@
 //! The lent slots with the chains in them, and the steps that move a slot from one chain to another.
 
 ghost use Rattle.std.specs.Prelude.{◌<◌, length};
-ghost use Rattle.chains.specs.Boards.{Begins, Hung, Kept, Relinked, Rewritten, Seats, Seeks, Unhung, slots_of};
+ghost use Rattle.chains.specs.Boards.{Begins, Hung, Kept, Led, Relinked, Rewritten, Seats, Seeks, Unhung, slots_of};
 
 use crate::slot::{ChainRefusal, Keyed, Slot};
 use crate::steps::{gap_for, place_of};
@@ -41,6 +41,19 @@ impl<R: Copy, const N: usize> Board<'_, R, N> {
         self.slots[place].item = item;
     }
 
+    // The slot at `place` follows the place `at` of the chain, or comes first in it.
+    fn lead(&mut self, chain: usize, at: usize, place: usize)
+        requires chained { chain < length self.old.heads }
+        requires before { at < length (slots_of self.old) }
+        ensures { Led self.old chain at place self.new }
+    {
+        if at == 0 {
+            self.heads[chain] = place;
+        } else {
+            self.relink(at, place);
+        }
+    }
+
     // The first spare slot takes the record and is linked in after the place `at` of the chain, or first.
     pub(crate) fn link_in(&mut self, chain: usize, at: usize, next: usize, item: R)
         requires chained { chain < length self.old.heads }
@@ -53,11 +66,7 @@ impl<R: Copy, const N: usize> Board<'_, R, N> {
         self.spare = self.slots[place].next;
         self.relink(place, next);
         self.rewrite(place, item);
-        if at == 0 {
-            self.heads[chain] = place;
-        } else {
-            self.relink(at, place);
-        }
+        self.lead(chain, at, place);
         self.count += 1;
     }
 
@@ -71,11 +80,7 @@ impl<R: Copy, const N: usize> Board<'_, R, N> {
     {
         let rest = self.slots[place].next;
         let spare = self.spare;
-        if at == 0 {
-            self.heads[chain] = rest;
-        } else {
-            self.relink(at, rest);
-        }
+        self.lead(chain, at, rest);
         self.relink(place, spare);
         self.spare = place;
         self.count -= 1;
