@@ -5,7 +5,7 @@ use Rattle.limits.specs.Refusals.{First}
 use Rattle.limits.proofs.Once.{none_hold}
 use Rattle.std.proofs.lemmas.List.{append-nil, length-append, length-map, get_or-map}
 use Rattle.std.proofs.lemmas.Bool.{cases_eq, cases_Bool, eqb-true, eqb-false, ltb-true, ltb-false}
-use Rattle.chains.specs.Boards.{slots_of, stored, Kept, Begins, Seeks, Seats, Hung, Unhung, Rewritten}
+use Rattle.chains.specs.Boards.{slots_of, stored, Kept, Seeks, Seats, Hung, Unhung, Rewritten, Walks}
 use Rattle.chains.specs.Calls.{Content, with_row, find_rules, insert_rules, Inserts, Removes, Replaces}
 use Rattle.chains.specs.Places.{nexts, values, places, records, rows_of, Trail, Ends, Sound}
 use Rattle.chains.specs.Records.{In, Lacks, FirstWith, insert, without, replace, total, row}
@@ -14,6 +14,7 @@ use Rattle.chains.specs.declared.board.Board.{Board}
 use Rattle.chains.specs.declared.slot.ChainRefusal.{ChainRefusal}
 use Rattle.chains.specs.declared.slot.ChainRefusal.TheVariants.{Absent}
 use Rattle.chains.specs.declared.slot.Slot.{Slot}
+use Rattle.chains.specs.declared.walk.Walk.{Walk}
 use Rattle.chains.proofs.Lists.{fronted_at, item_at, records_append, records_count, insert_at, without_at, replace_at, first_at, first_there}
 use Rattle.chains.proofs.Moves.{total_set, total_covers}
 use Rattle.chains.proofs.Searches.{starts, ended, records_from}
@@ -278,37 +279,43 @@ module _ {R : Type 0} {N : ℕ} (n : ℕ) (b : Board R N) (kept : Kept n b) wher
           )
 
 -- where a chain begins whose number is not refused
-pub begun : (hs : List ℕ) (c p : ℕ) (o : Option ℕ) (e : ChainRefusal) → Begins hs c o → Ok p ≡ ok_or o e → Within 1 (length hs) c × (p ≡ get_or hs (c - 1) 0)
-begun hs c p (Some q) e begins is = let same : p ≡ q = cc in (begins.0, same ∙ begins.1)
-begun hs c p None e begins is = absurd (cc)
+pub begun : {R : Type 0} {N : ℕ} (b : Board R N) (c : ℕ) (w : Walk R) (o : Option (Walk R)) (e : ChainRefusal) (r : Result (Walk R) ChainRefusal) → Walks b c o → r ≡ Ok w → r ≡ ok_or o e → Within 1 (length b.heads) c × (w.place ≡ get_or b.heads (c - 1) 0) × (w.slots.now ≡ slots_of b)
+begun b c w (Some v) e r walks was is = let same : w ≡ v = cc in (walks.0.0, ap (λ x. x.place) same ∙ walks.0.1, ap (λ x. x.slots.now) same ∙ walks.1)
+begun b c w None e r walks was is = absurd (cc)
 
 -- where a record is taken in there is a spare slot
 pub spare_left : {R : Type 0} {N : ℕ} (n : ℕ) (b : Board R N) (kept : Kept n b) (key : R → ℕ) (c k : ℕ) → First (insert_rules key (stored b) c k) None → b.spare ≡ 0 → ⊥
 spare_left n b kept key c k none e = let (there, (present, (roomy, end))) = none_hold (insert_rules key (stored b) c k) none in roomy (full n b kept e)
 
--- a chain that begins at p ends there, and what a lookup along it finds is told of the chains
-module _ {R : Type 0} {N : ℕ} (n : ℕ) (b : Board R N) (kept : Kept n b) (c p : ℕ) (begins : Within 1 (length b.heads) c × (p ≡ get_or b.heads (c - 1) 0)) where
-  pub ends_there : Ends (nexts (slots_of b)) p
-  ends_there = subst (Ends (nexts (slots_of b))) (sym begins.1) (chain_ends n b kept c begins.0)
-
+-- what a lookup along a walk finds is told of the chains
+module _ {R : Type 0} {N : ℕ} (n : ℕ) (b : Board R N) (kept : Kept n b) (c : ℕ) (w : Walk R) (begins : Within 1 (length b.heads) c × (w.place ≡ get_or b.heads (c - 1) 0) × (w.slots.now ≡ slots_of b)) where
   pub there : (Within 1 (length (rows_of b.heads (slots_of b))) c → ⊥) → ⊥
   there = inside b.heads (slots_of b) c begins.0
 
   module _ (key : R → ℕ) (k : ℕ) where
-    pub lacking : Lacks key k (records (values (slots_of b)) (places (nexts (slots_of b)) p)) → Lacks key k (row (rows_of b.heads (slots_of b)) c)
-    lacking = subst (Lacks key k) (ap (λ q. records (values (slots_of b)) (places (nexts (slots_of b)) q)) begins.1 ∙ sym (row_is b.heads (slots_of b) c begins.0))
+    abbrev FindsThere : Option (ℕ × ℕ) → Type 0
+    FindsThere = FindsPlace key k (nexts (slots_of b)) (values (slots_of b)) (get_or b.heads (c - 1) 0)
 
-    pub sought : (o : Option (ℕ × ℕ)) → FindsPlace key k (nexts (slots_of b)) (values (slots_of b)) p o → Seeks key b c k (ok_or o Absent)
-    sought (Some s) f = (begins.0, subst (λ q. Found key k (nexts (slots_of b)) (values (slots_of b)) q s.0 s.1) begins.1 f)
-    sought None lacks = inr (there, inl (lacking lacks, refl))
+    finds : (o : Option (ℕ × ℕ)) → FindsPlace key k (nexts w.slots.now) (values w.slots.now) w.place o → FindsThere o
+    finds o f = subst (λ q. FindsPlace key k (nexts (slots_of b)) (values (slots_of b)) q o) begins.1 (subst (λ (ss : List (Slot R)). FindsPlace key k (nexts ss) (values ss) w.place o) begins.2 f)
 
-    pub some_has : (o : Option (ℕ × ℕ)) → FindsPlace key k (nexts (slots_of b)) (values (slots_of b)) p o → true ≡ is_some o → Lacks key k (row (rows_of b.heads (slots_of b)) c) → ⊥
-    some_has (Some s) f is = found_there n b kept c begins.0 key k s.0 s.1 (subst (λ q. Found key k (nexts (slots_of b)) (values (slots_of b)) q s.0 s.1) begins.1 f)
-    some_has None lacks is = absurd (cc)
+    lacking : Lacks key k (records (values (slots_of b)) (places (nexts (slots_of b)) (get_or b.heads (c - 1) 0))) → Lacks key k (row (rows_of b.heads (slots_of b)) c)
+    lacking = subst (Lacks key k) (sym (row_is b.heads (slots_of b) c begins.0))
 
-    pub none_has : (o : Option (ℕ × ℕ)) → FindsPlace key k (nexts (slots_of b)) (values (slots_of b)) p o → false ≡ is_some o → Lacks key k (row (rows_of b.heads (slots_of b)) c)
+    pub sought : (o : Option (ℕ × ℕ)) → FindsPlace key k (nexts w.slots.now) (values w.slots.now) w.place o → Seeks key b c k (ok_or o Absent)
+    sought (Some s) f = (begins.0, finds (Some s) f)
+    sought None f = inr (there, inl (lacking (finds None f), refl))
+
+    pub some_has : (o : Option (ℕ × ℕ)) → FindsPlace key k (nexts w.slots.now) (values w.slots.now) w.place o → true ≡ is_some o → Lacks key k (row (rows_of b.heads (slots_of b)) c) → ⊥
+    some_has (Some s) f is = found_there n b kept c begins.0 key k s.0 s.1 (finds (Some s) f)
+    some_has None f is = absurd (cc)
+
+    pub none_has : (o : Option (ℕ × ℕ)) → FindsPlace key k (nexts w.slots.now) (values w.slots.now) w.place o → false ≡ is_some o → Lacks key k (row (rows_of b.heads (slots_of b)) c)
     none_has (Some s) f is = absurd (cc)
-    none_has None lacks is = lacking lacks
+    none_has None f is = lacking (finds None f)
+
+    pub goes_there : (at next : ℕ) → Located (UpTo k) key (nexts w.slots.now) (values w.slots.now) w.place at next → Located (UpTo k) key (nexts (slots_of b)) (values (slots_of b)) (get_or b.heads (c - 1) 0) at next
+    goes_there at next l = subst (λ q. Located (UpTo k) key (nexts (slots_of b)) (values (slots_of b)) q at next) begins.1 (subst (λ (ss : List (Slot R)). Located (UpTo k) key (nexts ss) (values ss) w.place at next) begins.2 l)
 
 -- what the calls answer where they are refused
 module _ {R : Type 0} (key : R → ℕ) (m : Content R) (c k : ℕ) (e : ChainRefusal) where

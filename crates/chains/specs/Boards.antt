@@ -9,6 +9,7 @@ use Rattle.chains.specs.Steps.{Found, Located, UpTo, relinked, retopped}
 use Rattle.chains.specs.declared.board.Board.{Board}
 use Rattle.chains.specs.declared.slot.ChainRefusal.{ChainRefusal}
 use Rattle.chains.specs.declared.slot.Slot.{Slot}
+use Rattle.chains.specs.declared.walk.Walk.{Walk}
 
 -- the slots of a board
 abbrev pub slots_of : {R : Type 0} {N : ℕ} → Board R N → List (Slot R)
@@ -28,6 +29,11 @@ pub record Kept {R : Type 0} {N : ℕ} (n : ℕ) (b : Board R N) : Type 0 where
 abbrev pub Begins : List ℕ → ℕ → Option ℕ → Type 0
 Begins heads c (Some p) = Within 1 (length heads) c × (p ≡ slice_index heads (c - 1))
 Begins heads c None = Within 1 (length heads) c → ⊥
+
+-- a walk along a chain of the board, or that there is no chain of that number
+abbrev pub Walks : {R : Type 0} {N : ℕ} → Board R N → ℕ → Option (Walk R) → Type 0
+Walks b c (Some w) = Begins b.heads c (Some w.place) × (w.slots.now ≡ slots_of b)
+Walks b c None = Begins b.heads c None
 
 -- where the first record of a chain stands that has the key k, after which place, or why there is none
 abbrev pub Seeks : {R : Type 0} {N : ℕ} → (R → ℕ) → Board R N → ℕ → ℕ → Result (ℕ × ℕ) ChainRefusal → Type 0

@@ -1,10 +1,10 @@
 //! The lent slots with the chains in them, and the steps that move a slot from one chain to another.
 
 ghost use Rattle.std.specs.Prelude.{◌<◌, length};
-ghost use Rattle.chains.specs.Boards.{Begins, Hung, Kept, Led, Relinked, Rewritten, Seats, Seeks, Unhung, slots_of};
+ghost use Rattle.chains.specs.Boards.{Begins, Hung, Kept, Led, Relinked, Rewritten, Seats, Seeks, Unhung, Walks, slots_of};
 
 use crate::slot::{ChainRefusal, Keyed, Slot};
-use crate::steps::{gap_for, place_of};
+use crate::walk::Walk;
 
 // Lent slots with the chains in them: where each chain begins, where the spare slots begin, and how many records
 // stand. Nothing is claimed of a board; what holds of it is said by `Chains`.
@@ -18,11 +18,21 @@ pub(crate) struct Board<'a, R: Copy, const N: usize> {
 
 impl<R: Copy, const N: usize> Board<'_, R, N> {
     // Where a chain begins, if there is a chain of that number.
-    pub(crate) fn first_of(&self, chain: u32) -> Option<usize>
+    fn first_of(&self, chain: u32) -> Option<usize>
         ensures { Begins self.now.heads chain result }
     {
         let place = chain.checked_sub(1)?;
         self.heads.get(place as usize).copied()
+    }
+
+    // A walk along a chain, if there is one of that number.
+    pub(crate) fn walk(&self, chain: u32) -> Option<Walk<'_, R>>
+        requires { Kept N self.now }
+        ensures { Walks self.now chain result }
+    {
+        let slots = &*self.slots;
+        let place = self.first_of(chain)?;
+        Some(Walk { slots, place })
     }
 
     // Another slot follows.
@@ -93,8 +103,8 @@ impl<R: Keyed, const N: usize> Board<'_, R, N> {
         requires { Kept N self.now }
         ensures { Seeks R.keyed self.now chain key result }
     {
-        let first = self.first_of(chain).ok_or(ChainRefusal::NoChain)?;
-        place_of(self.slots, first, key).ok_or(ChainRefusal::Absent)
+        let walk = self.walk(chain).ok_or(ChainRefusal::NoChain)?;
+        walk.place_of(key).ok_or(ChainRefusal::Absent)
     }
 
     // Where a record of the key goes into a chain: after which place, or 0, and before which, or 0.
@@ -102,13 +112,13 @@ impl<R: Keyed, const N: usize> Board<'_, R, N> {
         requires { Kept N self.now }
         ensures { Seats R.keyed self.now chain key result }
     {
-        let first = self.first_of(chain).ok_or(ChainRefusal::NoChain)?;
-        if place_of(self.slots, first, key).is_some() {
+        let walk = self.walk(chain).ok_or(ChainRefusal::NoChain)?;
+        if walk.place_of(key).is_some() {
             return Err(ChainRefusal::Present);
         }
         if self.spare == 0 {
             return Err(ChainRefusal::Full);
         }
-        Ok(gap_for(self.slots, first, key))
+        Ok(walk.gap_for(key))
     }
 }

@@ -29,11 +29,8 @@ impl<R: Keyed, const N: usize> Chains<'_, R, N> {
         ensures walks { left_of result ≡ row (content self.now).rows chain }
         ensures ordered { Ascends R.keyed (left_of result) }
     {
-        let place = self.board.first_of(chain).unwrap_or(0);
-        Walk {
-            slots: self.board.slots,
-            place,
-        }
+        let slots = &*self.board.slots;
+        self.board.walk(chain).unwrap_or(Walk { slots, place: 0 })
     }
 
     /// The record of a chain that has the key.

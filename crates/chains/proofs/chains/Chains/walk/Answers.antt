@@ -1,18 +1,20 @@
-use Rattle.std.proofs.Common.{sym, ap, ◌∙◌, subst}
-use Rattle.chains.specs.Places.{nexts, held_from, Ends}
+use Rattle.std.proofs.Common.{refl, sym, ap, ◌∙◌, subst, rules}
 use Rattle.chains.specs.Records.{Ascends}
+use Rattle.chains.specs.Views.{left_of}
 use Rattle.chains.proofs.Ordered.{ascend_row}
 use Rattle.chains.proofs.Props.{kept_of, ordered_of}
-use Rattle.chains.proofs.Walks.{begun_ends, begun_row}
+use Rattle.chains.proofs.Walks.{over_ends, begun_row}
 use Rattle.chains.proofs.chains.Chains.walk.Goals as goal
 
-pub invariant_of-result : goal.invariant_of-result
-invariant_of-result g c =
-    let b = c.args.self.now.board in
-    record { ends = ∣ subst (Ends (nexts b.slots.now)) (sym c.unwrap_or-place.ensures) (begun_ends g.row.N b c.args.chain c.first_of.result (kept_of c.args.self.now) c.first_of.ensures) ∣₁ }
+pub walk-requires : goal.walk-requires
+walk-requires g c = (search rules, kept_of c.args.self.now)
 
-pub returns : goal.returns
-returns g c =
-    let b = c.args.self.now.board in
-    let is = ap (held_from b.slots.now) c.unwrap_or-place.ensures ∙ begun_row b c.args.chain c.first_of.result c.first_of.ensures in
-    record { walks = is; ordered = subst (Ascends g.R.Keyed.keyed) (sym is) (ascend_row g.R.Keyed.keyed _ c.args.chain (ordered_of c.args.self.now)) }
+pub invariant_of-unwrap_or : goal.invariant_of-unwrap_or
+invariant_of-unwrap_or g c = record { ends = ∣ over_ends c.args.self.now.board.slots.now ∣₁ }
+
+pub returns-clause-walks : goal.returns-clause-walks
+returns-clause-walks g c = ap left_of c.unwrap_or.ensures ∙ begun_row c.args.self.now.board c.args.chain c.walk.result _ refl c.walk.ensures
+
+pub returns-clause-ordered : goal.returns-clause-ordered
+returns-clause-ordered g c =
+    subst (Ascends g.R.Keyed.keyed) (sym (returns-clause-walks g c)) (ascend_row g.R.Keyed.keyed _ c.args.chain (ordered_of c.args.self.now))
