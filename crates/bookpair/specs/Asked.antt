@@ -10,7 +10,7 @@ use Rattle.bookpair.specs.declared.call.Answer.TheVariants.{Runs, Held, Booked, 
 use Rattle.bookpair.specs.declared.call.Call.{Call}
 use Rattle.bookpair.specs.declared.call.Call.TheVariants.{Run, Holder, Book, Release}
 
--- what is made of a result of the book's own, which is refused as that is
+-- an answer made of what the book gives, or the book's own refusal
 abbrev pub made : {A : Type 0} → (A → Answer) → Result A BookRefusal → Result Answer BookRefusal
 made answer (Ok a) = Ok (answer a)
 made answer (Err e) = Err e
