@@ -46,10 +46,6 @@ module _ (all next left : List SheetLine) (s : State) (l : SheetLine) (r : Reply
     ran = run_more first_state h.seen h.done s l r u h.ran a;
   }
 
--- every line is answered
-pub all_seen : (all left : List SheetLine) (s : State) (h : Sofar all left s) → left ≡ [] → Run first_state all h.done s
-all_seen all left s h e = subst (λ ls. Run first_state ls h.done s) (sym (h.split ∙ ap (λ ls. h.seen ++ ls) e ∙ append-nil h.seen)) h.ran
-
 -- none of the lines is READY
 abbrev pub Unready : List SheetLine → Type 0
 Unready [] = Unit {0}

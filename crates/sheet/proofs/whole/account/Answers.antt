@@ -1,7 +1,6 @@
-use Rattle.std.proofs.Common.{ap, ◌∙◌, arith}
+use Rattle.std.proofs.Common.{ap, ◌∙◌}
 use Rattle.sheet.specs.Readers.{lines_left, seen_line}
-use Rattle.sheet.proofs.Progress.{none_yet, account_more, all_seen}
-use Rattle.sheet.proofs.Wholes.{sheet_laws}
+use Rattle.sheet.proofs.Progress.{none_yet, account_more}
 use Rattle.sheet.proofs.whole.account.Goals as goal
 
 pub loop-line-init : goal.loop-line-init
@@ -12,8 +11,3 @@ loop-line-init c = record {
 
 pub loop-line-preserved : goal.loop-line-preserved
 loop-line-preserved c = account_more _ _ _ _ (seen_line c.in-Some.line) c.respond-reply.result _ c.in-Some.ensures.steps c.respond-reply.ensures _ _ c.loop-line.invariant c.in_ok-writeln.ensures.bytes
-
-pub returns : goal.returns
-returns c =
-    let h = c.loop-line.invariant in
-    record { account = record { long = λ many. absurd (omega arith); short = λ few. (h.sofar.done, _, all_seen _ _ _ h.sofar c.in-None.ensures.steps.0, h.replies) }; laws = sheet_laws }
