@@ -19,6 +19,7 @@ pub struct Extent {
     pub links: u32,
 }
 
+// `there`, `inside` and `fits` follow from `checks`: they spare a supplier the lemma on rules that do not hold.
 impl Extent {
     /// The least that a book can be for: one tick, and no link.
     pub const LEAST: Extent = Extent { cycle: 1, links: 0 };

@@ -3,6 +3,7 @@
 use book::Holding;
 
 /// A call of a book.
+// A value and no closure: it is drawn from a seed, and made of two books in turn.
 #[derive(Clone, Copy)]
 pub enum Call {
     /// Whether a tick of a link is free, and how many from it on are alike.

@@ -15,7 +15,7 @@ use crate::pass::Pass;
 use book::{Book, BookRefusal, Holding};
 
 impl ChainBook<'_> {
-    // A pass along the bookings of a link.
+    // A pass along the bookings of a link. A link is in range of one book, which a type of links could not say.
     fn pass(&self, link: u32) -> Pass<'_>
         requires { Within 1 self.now.extent.links link }
         ensures bookings { spans_of (left_of result.ahead) ≡ row (meaning_of self.now) link }

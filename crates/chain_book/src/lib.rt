@@ -31,12 +31,9 @@ mod tests {
         }
     }
 
-    // The number of a refusal, or 0.
+    // The number of a refusal, or 0. Each crate's tests have their own: no crate can use another's tests.
     fn refused<T: Drop>(r: Result<T, BookRefusal>) -> u32 {
-        match r {
-            Ok(_) => 0,
-            Err(refusal) => refusal.number(),
-        }
+        r.err().map_or(0, BookRefusal::number)
     }
 
     // Bookings over the end of the cycle, bookings that join, and links that are booked in full.

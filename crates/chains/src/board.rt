@@ -7,7 +7,8 @@ use crate::slot::{ChainRefusal, Keyed, Slot};
 use crate::walk::Walk;
 
 // Lent slots with the chains in them: where each chain begins, where the spare slots begin, and how many records
-// stand. Nothing is claimed of a board; what holds of it is said by `Chains`.
+// stand. Nothing is claimed of a board; what holds of it is said by `Chains`. Places and no map or owned list: the
+// slots are lent, and nothing here may allocate. A place is in range of one board, so each step asks for it.
 #[derive(Drop)]
 pub(crate) struct Board<'a, R: Copy, const N: usize> {
     pub(crate) slots: &'a mut [Slot<R>],

@@ -9,6 +9,7 @@ use crate::chains::Chains;
 use crate::slot::{ChainRefusal, Keyed};
 use crate::walk::Walk;
 
+// `ordered` says outright what the type keeps: a caller in another crate reads contracts and not its ghost fields.
 impl<R: Keyed, const N: usize> Chains<'_, R, N> {
     /// How many records can stand in all chains together.
     pub fn room(&self) -> usize

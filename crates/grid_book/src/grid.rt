@@ -11,6 +11,8 @@ use crate::row::paint;
 use book::Extent;
 
 // The lent cells, with no claim about what they hold, and what they are for.
+// Cells of all links in one slice: they are lent, and nothing here may allocate. A link is in range of one grid, so
+// each step asks for it, which a type of links could not say.
 #[derive(Drop)]
 pub(crate) struct Grid<'a> {
     pub(crate) cells: &'a mut [Cell],

@@ -18,7 +18,7 @@ mod tests {
     use crate::{Cell, GridBook};
     use book::{Book, BookRefusal, Holding};
 
-    // The number of a refusal, or 0.
+    // The number of a refusal, or 0. Each crate's tests have their own: no crate can use another's tests.
     fn refused<T: Drop>(r: Result<T, BookRefusal>) -> u32 {
         r.err().map_or(0, BookRefusal::number)
     }

@@ -67,6 +67,7 @@ impl Row<'_> {
 }
 
 // Writes the cells of a booking: one at its first tick, and another at each further tick.
+// It goes by how far past the start a cell is, since a booking goes round the end of the row and no slice does.
 pub(crate) fn paint(row: &mut [Cell], start: u32, ticks: u32, first: Cell, further: Cell)
     requires limited { length row.old ≤ cycle_max }
     requires begins { start < length row.old }

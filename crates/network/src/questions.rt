@@ -41,6 +41,7 @@ impl Network {
     }
 
     /// The number of the link between two nodes, if there is one.
+    // The search is the draft's, which asks the same before it adds a link.
     pub fn link_between(&self, from: u32, to: u32) -> Option<u32>
         ensures { TellsNumber (closed self.now) from to result }
     {

@@ -20,6 +20,7 @@ pub enum NetworkRefusal {
 
 impl NetworkRefusal {
     /// The number that stands for the refusal.
+    // Each enum has its own: a cast cannot be written for a type parameter.
     pub fn number(self) -> u32
         ensures { result ≡ number_of self }
     {

@@ -45,6 +45,7 @@ pub enum Refusal {
 
 impl SheetRefusal {
     /// The number that stands for the refusal.
+    // Each enum has its own: a cast cannot be written for a type parameter.
     pub fn number(self) -> u32
         ensures { result ≡ sheet_number self }
     {
