@@ -1,14 +1,13 @@
 //! The lent slots with the chains in them, and the steps that move a slot from one chain to another.
 
 ghost use Rattle.std.specs.Prelude.{◌<◌, length};
-ghost use Rattle.chains.specs.Boards.{Begins, Hung, Kept, Led, Relinked, Rewritten, Seats, Seeks, Unhung, Walks, slots_of};
+ghost use Rattle.chains.specs.Boards.{Begins, Hung, Led, Relinked, Rewritten, Unhung, slots_of};
 
-use crate::slot::{ChainRefusal, Keyed, Slot};
-use crate::walk::Walk;
+use crate::slot::Slot;
 
 // Lent slots with the chains in them: where each chain begins, where the spare slots begin, and how many records
 // stand. Nothing is claimed of a board; what holds of it is said by `Chains`. Places and no map or owned list: the
-// slots are lent, and nothing here may allocate. A place is in range of one board, so each step asks for it.
+// slots are lent, and nothing here may allocate. A chain or a place is in range of one board, so each step asks for it.
 #[derive(Drop)]
 pub(crate) struct Board<'a, R: Copy, const N: usize> {
     pub(crate) slots: &'a mut [Slot<R>],
@@ -19,21 +18,11 @@ pub(crate) struct Board<'a, R: Copy, const N: usize> {
 
 impl<R: Copy, const N: usize> Board<'_, R, N> {
     // Where a chain begins, if there is a chain of that number.
-    fn first_of(&self, chain: u32) -> Option<usize>
+    pub(crate) fn first_of(&self, chain: u32) -> Option<usize>
         ensures { Begins self.now.heads chain result }
     {
         let place = chain.checked_sub(1)?;
         self.heads.get(place as usize).copied()
-    }
-
-    // A walk along a chain, if there is one of that number.
-    pub(crate) fn walk(&self, chain: u32) -> Option<Walk<'_, R>>
-        requires { Kept N self.now }
-        ensures { Walks self.now chain result }
-    {
-        let slots = &*self.slots;
-        let place = self.first_of(chain)?;
-        Some(Walk { slots, place })
     }
 
     // Another slot follows.
@@ -95,31 +84,5 @@ impl<R: Copy, const N: usize> Board<'_, R, N> {
         self.relink(place, spare);
         self.spare = place;
         self.count -= 1;
-    }
-}
-
-impl<R: Keyed, const N: usize> Board<'_, R, N> {
-    // Where the record of a chain stands that has the key, after the place before it, or 0.
-    pub(crate) fn seek(&self, chain: u32, key: u32) -> Result<(usize, usize), ChainRefusal>
-        requires { Kept N self.now }
-        ensures { Seeks R.keyed self.now chain key result }
-    {
-        let walk = self.walk(chain).ok_or(ChainRefusal::NoChain)?;
-        walk.place_of(key).ok_or(ChainRefusal::Absent)
-    }
-
-    // Where a record of the key goes into a chain: after which place, or 0, and before which, or 0.
-    pub(crate) fn seat(&self, chain: u32, key: u32) -> Result<(usize, usize), ChainRefusal>
-        requires { Kept N self.now }
-        ensures { Seats R.keyed self.now chain key result }
-    {
-        let walk = self.walk(chain).ok_or(ChainRefusal::NoChain)?;
-        if walk.place_of(key).is_some() {
-            return Err(ChainRefusal::Present);
-        }
-        if self.spare == 0 {
-            return Err(ChainRefusal::Full);
-        }
-        Ok(walk.gap_for(key))
     }
 }

@@ -31,14 +31,14 @@ impl<R: Keyed, const N: usize> Chains<'_, R, N> {
         ensures ordered { Ascends R.keyed (left_of result) }
     {
         let slots = &*self.board.slots;
-        self.board.walk(chain).unwrap_or(Walk { slots, place: 0 })
+        self.walk_of(chain).unwrap_or(Walk { slots, place: 0 })
     }
 
     /// The record of a chain that has the key.
     pub fn find(&self, chain: u32, key: u32) -> Result<R, ChainRefusal>
         ensures { Finds R.keyed (content self.now) chain key result }
     {
-        let (_, place) = self.board.seek(chain, key)?;
+        let (_, place) = self.seek(chain, key)?;
         Ok(self.board.slots[place].item)
     }
 
@@ -47,7 +47,7 @@ impl<R: Keyed, const N: usize> Chains<'_, R, N> {
         ensures inserts { Inserts R.keyed (content self.old) chain item result (content self.new) }
         ensures ordered { AllAscend R.keyed (content self.new).rows }
     {
-        let (at, next) = self.board.seat(chain, item.key())?;
+        let (at, next) = self.seat(chain, item.key())?;
         self.board.link_in(chain as usize - 1, at, next, item);
         Ok(())
     }
@@ -57,7 +57,7 @@ impl<R: Keyed, const N: usize> Chains<'_, R, N> {
         ensures replaces { Replaces R.keyed (content self.old) chain item result (content self.new) }
         ensures ordered { AllAscend R.keyed (content self.new).rows }
     {
-        let (_, place) = self.board.seek(chain, item.key())?;
+        let (_, place) = self.seek(chain, item.key())?;
         let old = self.board.slots[place].item;
         self.board.rewrite(place, item);
         Ok(old)
@@ -68,7 +68,7 @@ impl<R: Keyed, const N: usize> Chains<'_, R, N> {
         ensures removes { Removes R.keyed (content self.old) chain key result (content self.new) }
         ensures ordered { AllAscend R.keyed (content self.new).rows }
     {
-        let (at, place) = self.board.seek(chain, key)?;
+        let (at, place) = self.seek(chain, key)?;
         let item = self.board.slots[place].item;
         self.board.link_out(chain as usize - 1, at, place);
         Ok(item)

@@ -6,6 +6,7 @@ mod board;
 mod calls;
 mod chains;
 mod making;
+mod seek;
 mod slot;
 mod steps;
 mod walk;

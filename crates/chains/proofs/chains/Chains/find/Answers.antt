@@ -5,9 +5,6 @@ use Rattle.chains.proofs.Outcomes.{found_rules, found_item}
 use Rattle.chains.proofs.Props.{kept_of}
 use Rattle.chains.proofs.chains.Chains.find.Goals as goal
 
-pub seek-requires : goal.seek-requires
-seek-requires g c = (search rules, kept_of c.args.self.now)
-
 pub returns-in_err-place : goal.returns-in_err-place
 returns-in_err-place g c =
     let is : c.from_residual.result ≡ Err c.in_err-place.field-0.0 = search rules in

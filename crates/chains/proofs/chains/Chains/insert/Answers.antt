@@ -6,9 +6,6 @@ use Rattle.chains.proofs.Outcomes.{spare_left, spare_below, count_below, at_of_i
 use Rattle.chains.proofs.Props.{kept_of, ordered_of}
 use Rattle.chains.proofs.chains.Chains.insert.Goals as goal
 
-pub seat-requires : goal.seat-requires
-seat-requires g c = (search rules, kept_of c.args.self.now)
-
 pub returns-in_err-at : goal.returns-in_err-at
 returns-in_err-at g c = record {
   inserts = inserts_not g.R.Keyed.keyed (content c.args.self.now) c.args.chain c.key.result c.in_err-at.field-0.0 c.args.item c.from_residual.result c.key.ensures (search rules) c.in_err-at.ensures;

@@ -6,9 +6,6 @@ use Rattle.chains.proofs.Outcomes.{place_below, at_of_remove, some_stand, remove
 use Rattle.chains.proofs.Props.{kept_of, ordered_of}
 use Rattle.chains.proofs.chains.Chains.remove.Goals as goal
 
-pub seek-requires : goal.seek-requires
-seek-requires g c = (search rules, kept_of c.args.self.now)
-
 pub returns-in_err-at : goal.returns-in_err-at
 returns-in_err-at g c = record {
   removes = removes_not g.R.Keyed.keyed (content c.args.self.now) c.args.chain c.args.key c.in_err-at.field-0.0 c.from_residual.result (search rules) c.in_err-at.ensures;

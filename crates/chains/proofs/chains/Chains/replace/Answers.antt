@@ -1,12 +1,9 @@
-use Rattle.std.proofs.Common.{Ok, rules}
+use Rattle.std.proofs.Common.{Ok}
 use Rattle.chains.specs.Boards.{stored}
 use Rattle.chains.proofs.Ordered.{replaces_ordered}
 use Rattle.chains.proofs.Outcomes.{replaces}
 use Rattle.chains.proofs.Props.{kept_of, ordered_of}
 use Rattle.chains.proofs.chains.Chains.replace.Goals as goal
-
-pub seek-requires : goal.seek-requires
-seek-requires g c = (search rules, kept_of c.args.self.now)
 
 pub returns-in_err-place-clause-ordered : goal.returns-in_err-place-clause-ordered
 returns-in_err-place-clause-ordered g c = ordered_of c.args.self.now

@@ -1,19 +1,16 @@
-use Rattle.std.proofs.Common.{refl, sym, ap, ◌∙◌, subst, rules}
+use Rattle.std.proofs.Common.{refl, sym, ap, ◌∙◌, subst}
 use Rattle.chains.specs.Records.{Ascends}
 use Rattle.chains.specs.Views.{left_of}
 use Rattle.chains.proofs.Ordered.{ascend_row}
-use Rattle.chains.proofs.Props.{kept_of, ordered_of}
+use Rattle.chains.proofs.Props.{ordered_of}
 use Rattle.chains.proofs.Walks.{over_ends, begun_row}
 use Rattle.chains.proofs.chains.Chains.walk.Goals as goal
-
-pub walk-requires : goal.walk-requires
-walk-requires g c = (search rules, kept_of c.args.self.now)
 
 pub invariant_of-unwrap_or : goal.invariant_of-unwrap_or
 invariant_of-unwrap_or g c = record { ends = ∣ over_ends c.args.self.now.board.slots.now ∣₁ }
 
 pub returns-clause-walks : goal.returns-clause-walks
-returns-clause-walks g c = ap left_of c.unwrap_or.ensures ∙ begun_row c.args.self.now.board c.args.chain c.walk.result _ refl c.walk.ensures
+returns-clause-walks g c = ap left_of c.unwrap_or.ensures ∙ begun_row c.args.self.now.board c.args.chain c.walk_of.result _ refl c.walk_of.ensures
 
 pub returns-clause-ordered : goal.returns-clause-ordered
 returns-clause-ordered g c =

@@ -1,9 +1,0 @@
-use Rattle.std.proofs.Common.{subst}
-use Rattle.chains.specs.Boards.{Begins}
-use Rattle.chains.proofs.Walks.{begun_ends}
-use Rattle.chains.proofs.board.Board.walk.Goals as goal
-
-pub invariant_of-result : goal.invariant_of-result
-invariant_of-result g c =
-    let b = c.args.self.now in
-    record { ends = ∣ begun_ends g.row.N b c.args.chain c.in_ok-place.place c.requires (subst (Begins b.heads c.args.chain) c.in_ok-place.was c.first_of.ensures) ∣₁ }
