@@ -47,6 +47,7 @@ impl Extent {
 
     /// Passes a booking whose link, start, length and flow number are in range, and else says why not: for whoever
     /// supplies a book.
+    // The start stays beside the `Holding`, as where a booking is kept: a cell has it by its place, a chain by its key.
     pub fn check_booking(self, link: u32, start: u32, holding: Holding) -> Result<(), BookRefusal>
         ensures checks { Checks (span_rules (bare self.cycle self.links) link (span start holding.ticks holding.flow)) result }
         ensures there { OnOk result (Within 1 self.links link) }

@@ -58,6 +58,7 @@ pub trait Book {
 }
 
 /// Whether a tick of a link is free, and a number of ticks from it on, going round, that are alike; it is not said to be the greatest.
+// The pair of `Book::run`, of which both parts count.
 #[tactic(auto, using(crate::proofs::Whole::tells_stretch, crate::proofs::Whole::book_laws))]
 pub fn free_for<B: Book>(book: &B, link: u32, tick: u32) -> Result<(bool, u32), BookRefusal>
     ensures stretch { TellsStretch (B.Book.meaning book.now) link tick result }

@@ -6,6 +6,7 @@ use book::Holding;
 use chains::Keyed;
 
 /// A booking as it is kept in a chain: the chain of its link has it by its start.
+// Flat, with no `Holding` inside: whoever lends records fills them field by field, and `From` gives the pair that is answered.
 #[derive(Clone, Copy)]
 pub struct Booking {
     /// The first tick.

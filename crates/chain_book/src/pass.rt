@@ -9,7 +9,7 @@ ghost use Rattle.limits.specs.Ranges.{cycle_max};
 use crate::booking::Booking;
 use chains::Walk;
 
-// The bookings of a link, as they are ahead of a pass in the cycle that they are orderly in.
+// The bookings of a link, as they are ahead of a pass in the cycle that they are orderly in. A tick is in range of one cycle, so each pass asks for it.
 #[derive(Drop)]
 pub(crate) struct Pass<'a> {
     pub(crate) ahead: Walk<'a, Booking>,

@@ -1,4 +1,6 @@
-//! The lookup along a chain. A place is the index of a slot, and 0 none: a link is all that a lent slot has for it.
+//! The lookup along a chain. A place is the index of a slot, and 0 none: a link is all that a lent slot has for it. A
+//! head, the spare slot and a walk have it in that form too, since each is read from a link and written to one; and
+//! a place and the one before it stay a pair, which a struct would only name.
 
 ghost use Rattle.chains.specs.Places.{nexts, values};
 ghost use Rattle.chains.specs.Steps.{FindsPlace, Located, UpTo};

@@ -11,7 +11,7 @@ ghost use Rattle.grid_book.specs.Rows.{Painted};
 use crate::cell::Cell;
 use book::Holding;
 
-// The cells of one link of a book, as far as there are any, and the cycle.
+// The cells of one link of a book, as far as there are any, and the cycle. A tick is in range of one cycle, so each question asks for it.
 #[derive(Drop)]
 pub(crate) struct Row<'a> {
     pub(crate) cells: &'a [Cell],
@@ -44,7 +44,7 @@ impl Row<'_> {
         self.cell(tick).begun()
     }
 
-    // Whether a tick is free, and how many from it on, going round, are alike.
+    // Whether a tick is free, and how many from it on, going round, are alike: the pair of `Book::run`.
     pub(crate) fn run(&self, tick: u32) -> (bool, u32)
         requires { tick < self.now.cycle }
         ensures free { Decides result.0 (Free self.now.cycle (spans self.now.cells.now) tick) }

@@ -22,7 +22,7 @@ pub use refusal::NetworkRefusal;
 mod tests {
     use crate::{Draft, Link, NetworkRefusal, Numbers};
 
-    // The number of the refusal, or 0.
+    // The number of the refusal, or 0. Each crate's tests have their own: no crate can use another's tests.
     fn refused(r: Result<(), NetworkRefusal>) -> u32 {
         r.err().map_or(0, NetworkRefusal::number)
     }

@@ -11,7 +11,7 @@ use crate::piece::Piece;
 pub struct Reader<'a> {
     // What has not been handed out; none after the last line.
     rest: Option<Piece<'a>>,
-    // How many lines have been handed out.
+    // How many lines have been handed out; no `enumerate` at the end, since a line has its number wherever it goes.
     count: usize,
     ghost counted: { IfSome rest (λ p. count ≤ p.place) } by { Prim.hlevel props },
 }

@@ -15,7 +15,7 @@ use crate::refusal::SheetRefusal;
 use crate::token::Token;
 use network::Numbers;
 
-// The most numbers that follow a keyword.
+// The most numbers that follow a keyword. An array of so many and no `Vec`: it is taken apart by place, and needs no memory.
 const MOST_NUMBERS: usize = 7;
 
 // The keyword that a line begins with, and the words after it.

@@ -9,15 +9,15 @@ use network::NetworkRefusal;
 /// Why a line is refused before anything is done with it.
 #[derive(Clone, Copy, PartialEq, Eq, Debug)]
 pub enum SheetRefusal {
-    /// The line begins with no word that is known.
+    /// 61: the line begins with no word that is known.
     UnknownWord = 61,
-    /// More or fewer words follow than the first word asks for.
+    /// 62: more or fewer words follow than the first word asks for.
     WordCount = 62,
-    /// A word that should be a number is none.
+    /// 63: a word that should be a number is none.
     NotANumber = 63,
-    /// The line belongs on the other side of `READY`.
+    /// 64: the line belongs on the other side of `READY`.
     OtherSide = 64,
-    /// The sheet has more than 32,768 bytes.
+    /// 65: the sheet has more than 32,768 bytes.
     TooLong = 65,
 }
 

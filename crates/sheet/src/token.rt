@@ -6,6 +6,7 @@ ghost use Rattle.sheet.specs.Readers.{seen, token_word};
 use crate::piece::Piece;
 
 /// A word of a line, told apart by whether it is a number.
+// An enum and no `Option` of a value beside the word: the rules of a line name words and numbers as two kinds.
 #[derive(Clone, Copy)]
 pub enum Token<'a> {
     /// A word that is no number.
