@@ -1,5 +1,5 @@
 -- The numbers after a line's first word, one more at a time. Assumes nothing.
-use Rattle.std.proofs.Common.{◌≡◌, ℕ, suc, ◌+◌, ◌<◌, ◌≤◌, List, [], ◌∷◌, ◌++◌, map, length, set, take, Some, None, sym, refl, ap, ◌∙◌, subst, inl, inr, append_assoc, append-nil, arith, length-append, length-set}
+use Rattle.std.proofs.Common.{◌≡◌, ℕ, suc, ◌+◌, ◌<◌, ◌≤◌, List, [], ◌∷◌, ◌++◌, map, length, set, take, Some, None, sym, refl, ap, ◌∙◌, subst, inl, inr, append_assoc, arith, length-append, length-set}
 use mathlib.Core.List.{map-append}
 use Rattle.limits.proofs.Once.{first_passed}
 use Rattle.limits.specs.Refusals.{First}
@@ -68,15 +68,6 @@ module _ (ws : List SheetWord) (k : ℕ) (vs : List ℕ) where
     pub bad_word : NoNumber w.text → (f : Fault) → f ≡ record { refusal = NotANumber; place = w.place } → First (map number_rule ws) (Some f)
     bad_word bad f e =
         subst (λ us. First (map number_rule us) (Some f)) (sym all) (rw map-append (first_passed (map number_rule h.done) (map number_rule (w ∷ left)) _ (numerals_pass h.done (take k vs) h.numerals) (inl (bad, ap Some e))))
-
-  -- no word is left
-  pub all_read : (left : List SheetWord) → Sofar ws left k vs → left ≡ [] → Numerals ws (take (length ws) vs)
-  all_read left h e =
-      let whole : ws ≡ h.done = h.split ∙ ap (λ l. h.done ++ l) e ∙ append-nil h.done in
-      subst (λ us. Numerals us (take (length us) vs)) (sym whole) (subst (λ n. Numerals h.done (take n vs)) (sym h.many) h.numerals)
-
-pub none_yet : (ws left : List SheetWord) (k : ℕ) → left ≡ ws → k ≡ 0 → Sofar ws left k (0 ∷ 0 ∷ 0 ∷ 0 ∷ 0 ∷ 0 ∷ 0 ∷ [])
-none_yet ws left k e z = record { done = []; split = sym e; many = sym z; seven = refl; numerals = subst (λ n. Numerals [] (take n (0 ∷ 0 ∷ 0 ∷ 0 ∷ 0 ∷ 0 ∷ 0 ∷ []))) (sym z) refl }
 
 -- a lexer hands out as many tokens as words are left
 pub words_counted : (s : Lexer) (n : ℕ) → ((ts : List Token) × Drains HandsOut s ts × (n ≡ length ts)) → n ≡ length (words_left s)

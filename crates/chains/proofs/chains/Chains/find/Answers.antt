@@ -1,14 +1,6 @@
-use Rattle.std.proofs.Common.{◌≡◌, Err, sym, subst, rules}
-use Rattle.chains.specs.Calls.{Finds}
-use Rattle.chains.specs.Views.{content}
 use Rattle.chains.proofs.Outcomes.{found_rules, found_item}
 use Rattle.chains.proofs.Props.{kept_of}
 use Rattle.chains.proofs.chains.Chains.find.Goals as goal
-
-pub returns-in_err-place : goal.returns-in_err-place
-returns-in_err-place g c =
-    let is : c.from_residual.result ≡ Err c.in_err-place.field-0.0 = search rules in
-    subst (Finds g.R.Keyed.keyed (content c.args.self.now) c.args.chain c.args.key) (sym is) c.in_err-place.ensures
 
 pub returns : goal.returns
 returns g c =
