@@ -1,19 +1,18 @@
 -- The numbers after a line's first word, one more at a time. Assumes nothing.
-use Rattle.std.proofs.Common.{◌≡◌, ℕ, suc, ◌+◌, ◌<◌, ◌≤◌, List, [], ◌∷◌, ◌++◌, map, length, set, take, Some, None, sym, refl, ap, ◌∙◌, subst, inl, inr, append_assoc, arith, length-append, length-set}
+use Rattle.std.proofs.Common.{◌≡◌, ℕ, suc, ◌+◌, ◌<◌, List, [], ◌∷◌, ◌++◌, map, length, set, take, replicate, None, Ok, Err, Result, sym, refl, ap, ◌∙◌, subst, inl, inr, append_assoc, arith, length-append, length-set}
 use mathlib.Core.List.{map-append}
-use Rattle.limits.proofs.Once.{first_passed}
+use Rattle.limits.proofs.Once.{first_found, first_passed}
 use Rattle.limits.specs.Refusals.{First}
-use Rattle.std.proofs.lemmas.Iterator.Consumers.{count_from_yields_List, YieldsList-from_shown}
 use Rattle.std.proofs.lemmas.List.{length_push, take_more_set}
-use Rattle.std.specs.Iterator.{Drains}
 use Rattle.sheet.specs.Commands.{number_rule, Numerals}
 use Rattle.sheet.specs.Lines.{SheetWord}
-use Rattle.sheet.specs.Numerals.{Numeral, NoNumber}
-use Rattle.sheet.specs.Readers.{HandsOut, token_word, words_left}
+use Rattle.sheet.specs.Numerals.{Numeral}
+use Rattle.sheet.specs.Readers.{Told, token_word}
+use Rattle.sheet.specs.Readings.{NumbersOf, noted}
 use Rattle.sheet.specs.declared.command.Fault.{Fault}
-use Rattle.sheet.specs.declared.lexer.Lexer.{Lexer}
-use Rattle.sheet.specs.declared.refusal.SheetRefusal.TheVariants.{NotANumber}
 use Rattle.sheet.specs.declared.token.Token.{Token}
+use Rattle.sheet.specs.declared.token.Token.TheVariants.{Word, Number}
+use Rattle.std.specs.Prelude.{IfOk}
 
 -- one number more
 numerals_push : (ws : List SheetWord) (ns : List ℕ) (w : SheetWord) (n : ℕ) → Numerals ws ns → Numeral w.text n → Numerals (ws ++ (w ∷ [])) (ns ++ (n ∷ []))
@@ -34,41 +33,44 @@ numerals_pass [] ns h = refl
 numerals_pass (w ∷ ws) [] h = absurd h
 numerals_pass (w ∷ ws) (n ∷ ns) h = inr (λ bad. bad n h.0, numerals_pass ws ns h.1)
 
--- k of the words ws are the numbers read so far, and the others are left
-pub record Sofar (ws left : List SheetWord) (k : ℕ) (vs : List ℕ) : Type 0 where
+-- one token more
+noted_more : (ws : List SheetWord) (known : Result (List ℕ) Fault) (t : Token) → IfOk known (λ vs. length vs ≡ 7) → length ws < 7 → NumbersOf ws known → Told t → NumbersOf (ws ++ (token_word t ∷ [])) (noted known (length ws) t)
+noted_more ws (Ok vs) (Number word value) seven few h told =
+    subst (Numerals (ws ++ (token_word (Number word value) ∷ []))) (sym read) (numerals_push ws (take (length ws) vs) (token_word (Number word value)) value h told)
+  where
+    read : take (length (ws ++ (token_word (Number word value) ∷ []))) (set vs (length ws) value) ≡ take (length ws) vs ++ (value ∷ [])
+    read = ap (λ j. take j (set vs (length ws) value)) (length_push ws (token_word (Number word value))) ∙ take_more_set vs (length ws) value (omega (arith, seven))
+noted_more ws (Ok vs) (Word word) seven few h told =
+    rw map-append (first_passed (map number_rule ws) (number_rule (token_word (Word word)) ∷ []) _ (numerals_pass ws (take (length ws) vs) h) (inl (told, refl)))
+noted_more ws (Err f) t seven few h told =
+    rw map-append (first_found (map number_rule ws) (number_rule (token_word t) ∷ []) f h)
+
+noted_seven : (known : Result (List ℕ) Fault) (k : ℕ) (t : Token) → IfOk known (λ vs. length vs ≡ 7) → IfOk (noted known k t) (λ vs. length vs ≡ 7)
+noted_seven (Ok vs) k (Number word value) seven = length-set vs k value ∙ seven
+noted_seven (Ok vs) k (Word word) seven = tt
+noted_seven (Err f) k t seven = tt
+
+-- k of the words ws are read so far, and the others are left
+pub record Sofar (ws left : List SheetWord) (k : ℕ) (known : Result (List ℕ) Fault) : Type 0 where
   pub done : List SheetWord
   pub split : ws ≡ done ++ left
   pub many : length done ≡ k
-  pub seven : length vs ≡ 7
-  pub numerals : Numerals done (take k vs)
+  pub seven : IfOk known (λ vs. length vs ≡ 7)
+  pub numbers : NumbersOf done known
 
-module _ (ws : List SheetWord) (k : ℕ) (vs : List ℕ) where
-  module _ (next left : List SheetWord) (w : SheetWord) (h : Sofar ws next k vs) (e : next ≡ w ∷ left) where
-    all : ws ≡ h.done ++ (w ∷ left)
-    all = h.split ∙ ap (λ l. h.done ++ l) e
+pub none_yet : (ws : List SheetWord) → Sofar ws ws 0 (Ok (replicate 7 0))
+none_yet ws = record { done = []; split = refl; many = refl; seven = refl; numbers = refl }
 
-    -- there is room for another word
-    pub room : length ws ≤ 7 → k < 7
-    room few = omega (arith, ap length all, length-append h.done (w ∷ left), h.many)
+pub one_more : (ws next left : List SheetWord) (k : ℕ) (known : Result (List ℕ) Fault) (t : Token) → Sofar ws next k known → next ≡ token_word t ∷ left → Told t → k < 7 → Sofar ws left (k + 1) (noted known k t)
+one_more ws next left k known t h e told few = record {
+  done = h.done ++ (token_word t ∷ []);
+  split = h.split ∙ ap (λ l. h.done ++ l) e ∙ sym (append_assoc h.done (token_word t ∷ []) left);
+  many = length_push h.done (token_word t) ∙ ap (λ n. n + 1) h.many;
+  seven = noted_seven known k t h.seven;
+  numbers = subst (λ n. NumbersOf (h.done ++ (token_word t ∷ [])) (noted known n t)) h.many (noted_more h.done known t h.seven (omega (arith, h.many)) h.numbers told);
+}
 
-    -- a word more is a number, which stands at the index i
-    pub one_more : (n i m : ℕ) → Numeral w.text n → k < 7 → i ≡ k → m ≡ k + 1 → Sofar ws left m (set vs i n)
-    one_more n i m number few here next = record {
-      done = h.done ++ (w ∷ []);
-      split = all ∙ sym (append_assoc h.done (w ∷ []) left);
-      many = length_push h.done w ∙ omega (arith, h.many);
-      seven = length-set vs i n ∙ h.seven;
-      numerals = subst (Numerals (h.done ++ (w ∷ []))) (sym read) (numerals_push h.done (take k vs) w n h.numerals number);
-    }
-      where
-        read : take m (set vs i n) ≡ take k vs ++ (n ∷ [])
-        read = ap (λ j. take j (set vs i n)) next ∙ ap (λ j. take (k + 1) (set vs j n)) here ∙ take_more_set vs k n (omega (arith, h.seven))
-
-    -- a word that is no number is the first such
-    pub bad_word : NoNumber w.text → (f : Fault) → f ≡ record { refusal = NotANumber; place = w.place } → First (map number_rule ws) (Some f)
-    bad_word bad f e =
-        subst (λ us. First (map number_rule us) (Some f)) (sym all) (rw map-append (first_passed (map number_rule h.done) (map number_rule (w ∷ left)) _ (numerals_pass h.done (take k vs) h.numerals) (inl (bad, ap Some e))))
-
--- a lexer hands out as many tokens as words are left
-pub words_counted : (s : Lexer) (n : ℕ) → ((ts : List Token) × Drains HandsOut s ts × (n ≡ length ts)) → n ≡ length (words_left s)
-words_counted s n ran = count_from_yields_List s n ran (YieldsList-from_shown HandsOut token_word words_left (λ t u h. ap length h.next.0) (λ t x u h. h.next) s)
+-- with as many words read as there are, none is left
+pub too_many : (ws left rest : List SheetWord) (w : SheetWord) (k : ℕ) (known : Result (List ℕ) Fault) → Sofar ws left k known → left ≡ w ∷ rest → length ws ≡ k → ⊥
+too_many ws left rest w k known h e same =
+    omega (arith, ap length h.split ∙ length-append h.done left, ap length e, h.many)

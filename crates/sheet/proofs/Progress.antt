@@ -61,10 +61,10 @@ up_to [] left fs h e = e
 up_to (k ∷ ks) left fs h e = (refl, inr (h.0, up_to ks left fs h.1 e))
 
 -- the text of all replies, and of those that refuse, with one reply more
-text_more : (done : List Reply) (r : Reply) (old new : List ℕ) → old ≡ written done → new ≡ old ++ written (r ∷ []) → new ≡ written (done ++ (r ∷ []))
+pub text_more : (done : List Reply) (r : Reply) (old new : List ℕ) → old ≡ written done → new ≡ old ++ written (r ∷ []) → new ≡ written (done ++ (r ∷ []))
 text_more done r old new e more = more ∙ ap (λ t. t ++ written (r ∷ [])) e ∙ sym (written_more done r)
 
-refusals_more : (done : List Reply) (r : Reply) (old new : List ℕ) → old ≡ written (only_refused done) → new ≡ old ++ written (only_refused (r ∷ [])) → new ≡ written (only_refused (done ++ (r ∷ [])))
+pub refusals_more : (done : List Reply) (r : Reply) (old new : List ℕ) → old ≡ written (only_refused done) → new ≡ old ++ written (only_refused (r ∷ [])) → new ≡ written (only_refused (done ++ (r ∷ [])))
 refusals_more done r old new e more = more ∙ ap (λ t. t ++ written (only_refused (r ∷ []))) e ∙ sym (refused_more done r)
 
 -- the lines that are answered, and the text of their replies

@@ -1,15 +1,29 @@
 -- How far a line is read. Assumes nothing.
-use Rattle.std.specs.Prelude.{◌≡◌, ℕ, true, List, Some, None, Ok, Err, Result, slice_index}
+use Rattle.std.specs.Prelude.{◌≡◌, ℕ, true, List, map, length, take, Some, None, Ok, Err, Result, slice_index, slice_set}
 use Rattle.limits.specs.Refusals.{First}
-use Rattle.sheet.specs.Commands.{line_rules, Says}
+use Rattle.sheet.specs.Commands.{Numerals, Says, line_rules, number_rule}
 use Rattle.sheet.specs.Keywords.{belongs_in}
-use Rattle.sheet.specs.Lines.{SheetLine}
+use Rattle.sheet.specs.Lines.{SheetLine, SheetWord}
 use Rattle.sheet.specs.declared.command.Command.{Command}
 use Rattle.sheet.specs.declared.command.Command.TheVariants.{Net, Link, Ready, Planner}
 use Rattle.sheet.specs.declared.command.Fault.{Fault}
 use Rattle.sheet.specs.declared.keyword.Keyword.{Keyword}
 use Rattle.sheet.specs.declared.keyword.Keyword.TheVariants as words
 use Rattle.sheet.specs.declared.keyword.Stage.{Stage}
+use Rattle.sheet.specs.declared.refusal.SheetRefusal.TheVariants.{NotANumber}
+use Rattle.sheet.specs.declared.token.Token.{Token}
+use Rattle.sheet.specs.declared.token.Token.TheVariants.{Word, Number}
+
+-- the numbers that words are, before values that mean nothing, or the fault of the first word that is none
+abbrev pub NumbersOf : List SheetWord → Result (List ℕ) Fault → Type 0
+NumbersOf ws (Ok vs) = Numerals ws (take (length ws) vs)
+NumbersOf ws (Err f) = First (map number_rule ws) (Some f)
+
+-- what is known of words with one token more, at an index
+abbrev pub noted : Result (List ℕ) Fault → ℕ → Token → Result (List ℕ) Fault
+noted (Ok vs) k (Number word value) = Ok (slice_set vs k value)
+noted (Ok vs) k (Word word) = Err (record { refusal = NotANumber; place = word.place })
+noted (Err f) k t = Err f
 
 -- the command of a keyword and the numbers after it
 abbrev pub command_of : Keyword → List ℕ → Command

@@ -4,7 +4,7 @@ use crate::numeral::numeral;
 use crate::piece::Piece;
 use crate::token::Token;
 
-/// Hands out the tokens of a line, one at a time; copied, so that words can be counted before they are read.
+/// Hands out the tokens of a line, one at a time.
 #[derive(Clone, Copy)]
 pub struct Lexer<'a> {
     // What has not been handed out; none after the last word.

@@ -1,11 +1,10 @@
 //! A line is read word by word, and its first fault found.
 
-ghost use Rattle.std.specs.Prelude.{◌≡◌, ◌≤◌, length, take, map, Some, IfOk, IfErr, IfSome, MatchOption};
-ghost use Rattle.limits.specs.Refusals.{First};
-ghost use Rattle.sheet.specs.Commands.{Begins, Numerals, number_rule};
+ghost use Rattle.std.specs.Prelude.{◌≡◌, ◌≢◌, ◌<◌, ◌≤◌, length, IfSome, MatchOption};
+ghost use Rattle.sheet.specs.Commands.{Begins};
 ghost use Rattle.sheet.specs.Lines.{arguments};
 ghost use Rattle.sheet.specs.Readers.{seen_line, words_left};
-ghost use Rattle.sheet.specs.Readings.{Reads, command_of};
+ghost use Rattle.sheet.specs.Readings.{NumbersOf, Reads, command_of, noted};
 
 use crate::command::{Command, Fault};
 use crate::keyword::{Keyword, Stage};
@@ -28,20 +27,35 @@ fn open<'a>(line: Line<'a>) -> Option<(Keyword, Lexer<'a>)>
     Some((keyword, words))
 }
 
-// The numbers that words are, or the fault of the first word that is none; values past the words mean nothing.
-fn numbers(words: Lexer) -> Result<[u32; MOST_NUMBERS], Fault>
-    requires { length (words_left words) ≤ 7 }
-    ensures values { IfOk result (λ values. Numerals (words_left words.entry) (take (length (words_left words.entry)) values)) }
-    ensures fault { IfErr result (λ fault. First (map number_rule (words_left words.entry)) (Some fault)) }
+// What is known of words with one token more, at an index: their numbers, or the fault of the first that is none.
+fn noted(
+    known: Result<[u32; MOST_NUMBERS], Fault>,
+    index: usize,
+    token: Token,
+) -> Result<[u32; MOST_NUMBERS], Fault>
+    requires { index < 7 }
+    ensures { result ≡ noted known index token.entry }
 {
-    let mut values = [0; MOST_NUMBERS];
-    for (index, token) in words.enumerate() {
-        match token {
-            Token::Number(_, value) => values[index] = value,
-            Token::Word(word) => return Err(word.fault(SheetRefusal::NotANumber)),
-        }
+    let mut values = known?;
+    match token {
+        Token::Number(_, value) => values[index] = value,
+        Token::Word(word) => return Err(word.fault(SheetRefusal::NotANumber)),
     }
     Ok(values)
+}
+
+// The numbers that words are, or the fault of the first that is none, if there are as many words as wanted; values
+// past the words mean nothing. Each word is read once, and none past the first that is too many.
+fn numbers(mut words: Lexer, wanted: usize) -> Option<Result<[u32; MOST_NUMBERS], Fault>>
+    requires { wanted ≤ 7 }
+    ensures counted { MatchOption result (length (words_left words.entry) ≢ wanted) (λ r. length (words_left words.entry) ≡ wanted) }
+    ensures known { IfSome result (NumbersOf (words_left words.entry)) }
+{
+    let mut known = Ok([0; MOST_NUMBERS]);
+    for index in 0..wanted {
+        known = noted(known, index, words.next()?);
+    }
+    words.next().is_none().then_some(known)
 }
 
 // What a keyword and the numbers after it ask for.
@@ -78,10 +92,8 @@ pub(crate) fn read(line: Line, stage: Stage) -> Result<Command, Fault>
     ensures { Reads stage (seen_line line.entry) result }
 {
     let (keyword, words) = open(line).ok_or(line.text.fault(SheetRefusal::UnknownWord))?;
-    if words.count() != keyword.arity() {
-        return Err(line.text.fault(SheetRefusal::WordCount));
-    }
-    let values = numbers(words)?;
+    let known = numbers(words, keyword.arity()).ok_or(line.text.fault(SheetRefusal::WordCount))?;
+    let values = known?;
     if !keyword.belongs(stage) {
         return Err(line.text.fault(SheetRefusal::OtherSide));
     }

@@ -3,4 +3,4 @@ use Rattle.sheet.proofs.Collecting.{Sofar}
 use Rattle.sheet.proofs.reading.numbers.Given as goal
 
 abbrev pub invariant-loop-index : goal.invariant-loop-index
-invariant-loop-index l = Sofar (words_left l.initial.words) (words_left l.index-iterator.iter) l.index-iterator.count l.values
+invariant-loop-index l = Sofar (words_left l.initial.words) (words_left l.words) l.index l.known
