@@ -1,6 +1,7 @@
 //! The calls of a chain book.
 
-ghost use Rattle.std.specs.Prelude.{◌≡◌, ◌<◌};
+ghost use Rattle.std.specs.Prelude.{◌≡◌, ◌<◌, OnOk};
+ghost use Rattle.book.specs.Calls.{tick_rules};
 ghost use Rattle.book.specs.Meanings.{row};
 ghost use Rattle.chain_book.specs.Bookings.{spans_of};
 ghost use Rattle.chain_book.specs.Scans.{BookedFor};
@@ -8,6 +9,7 @@ ghost use Rattle.chain_book.specs.Views.{meaning_of};
 ghost use Rattle.chain_book.specs.Props.{sound_of};
 ghost use Rattle.chains.specs.Views.{left_of};
 ghost use Rattle.limits.specs.Ranges.{Within};
+ghost use Rattle.limits.specs.Refusals.{Checks};
 
 use crate::booking::Booking;
 use crate::chain_book::ChainBook;
@@ -15,6 +17,15 @@ use crate::pass::Pass;
 use book::{Book, BookRefusal, Holding};
 
 impl ChainBook<'_> {
+    // Passes a tick of a link that the book has, and else says why not: the check of each question and of a release.
+    fn check_tick(&self, link: u32, tick: u32) -> Result<(), BookRefusal>
+        ensures checks { Checks (tick_rules (meaning_of self.now) link tick) result }
+        ensures there { OnOk result (Within 1 self.now.extent.links link) }
+        ensures inside { OnOk result (tick < self.now.extent.cycle) }
+    {
+        self.extent.check_tick(link, tick)
+    }
+
     // A pass along the bookings of a link. A link is in range of one book, which a type of links could not say.
     fn pass(&self, link: u32) -> Pass<'_>
         requires { Within 1 self.now.extent.links link }
@@ -66,7 +77,7 @@ impl Book for ChainBook<'_> {
     }
 
     fn run(&self, link: u32, tick: u32) -> Result<(bool, u32), BookRefusal> {
-        self.extent.check_tick(link, tick)?;
+        self.check_tick(link, tick)?;
         let booked = self.booked_for(link, tick);
         if booked > 0 {
             return Ok((false, booked));
@@ -75,7 +86,7 @@ impl Book for ChainBook<'_> {
     }
 
     fn holder(&self, link: u32, tick: u32) -> Result<Option<Holding>, BookRefusal> {
-        self.extent.check_tick(link, tick)?;
+        self.check_tick(link, tick)?;
         let found = self.chains.find(link, tick);
         Ok(found.ok().map(Holding::from))
     }
@@ -92,7 +103,7 @@ impl Book for ChainBook<'_> {
     }
 
     fn release(&mut self, link: u32, start: u32) -> Result<u32, BookRefusal> {
-        self.extent.check_tick(link, start)?;
+        self.check_tick(link, start)?;
         let removed = self.chains.remove(link, start);
         removed
             .map(|booking| booking.ticks)

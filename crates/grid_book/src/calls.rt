@@ -27,12 +27,12 @@ impl Book for GridBook<'_> {
     }
 
     fn run(&self, link: u32, tick: u32) -> Result<(bool, u32), BookRefusal> {
-        self.grid.extent.check_tick(link, tick)?;
+        self.check_tick(link, tick)?;
         Ok(self.row(link).run(tick))
     }
 
     fn holder(&self, link: u32, tick: u32) -> Result<Option<Holding>, BookRefusal> {
-        self.grid.extent.check_tick(link, tick)?;
+        self.check_tick(link, tick)?;
         Ok(self.row(link).begun_at(tick))
     }
 

@@ -1,7 +1,7 @@
 //! How a book in a grid looks at its cells and changes them.
 
-ghost use Rattle.std.specs.Prelude.{◌≡◌, Some, None, Ok};
-ghost use Rattle.book.specs.Calls.{Books, Releases, TellsHolder, book_rules};
+ghost use Rattle.std.specs.Prelude.{◌≡◌, ◌<◌, Some, None, Ok, OnOk};
+ghost use Rattle.book.specs.Calls.{Books, Releases, TellsHolder, book_rules, tick_rules};
 ghost use Rattle.book.specs.Meanings.{row};
 ghost use Rattle.book.specs.Spans.{span};
 ghost use Rattle.limits.specs.Ranges.{Within};
@@ -15,6 +15,15 @@ use crate::row::Row;
 use book::{BookRefusal, Holding};
 
 impl GridBook<'_> {
+    // Passes a tick of a link that the book has, and else says why not: the check of each question and of a release.
+    pub(crate) fn check_tick(&self, link: u32, tick: u32) -> Result<(), BookRefusal>
+        ensures checks { Checks (tick_rules (meaning_of self.now) link tick) result }
+        ensures there { OnOk result (Within 1 self.now.grid.extent.links link) }
+        ensures inside { OnOk result (tick < self.now.grid.extent.cycle) }
+    {
+        self.grid.extent.check_tick(link, tick)
+    }
+
     // The row of a link.
     #[tactic(auto, using(crate::proofs::Places::row_at))]
     pub(crate) fn row(&self, link: u32) -> Row<'_>
