@@ -259,10 +259,10 @@ none_elsewhere zero (suc links) = refl
 none_elsewhere (suc n) zero = omega (arith, none_elsewhere n zero)
 none_elsewhere (suc n) (suc links) = none_elsewhere n links
 
-empty_means : (cycle links records : ℕ) → links ≤ link_max → means cycle links (no_records link_max records) ≡ empty cycle links (records - 1)
+pub empty_means : (cycle links records : ℕ) → links ≤ link_max → means cycle links (no_records link_max records) ≡ empty cycle links (records - 1)
 empty_means cycle links records l = ap (λ rs. record { cycle = cycle; links = links; room = records - 1; rows = rs }) (rows_empty link_max links l)
 
-empty_sound : (cycle links records : ℕ) → InRange cycle links → records - 1 ≤ room_max → Sound cycle links (no_records link_max records)
+pub empty_sound : (cycle links records : ℕ) → InRange cycle links → records - 1 ≤ room_max → Sound cycle links (no_records link_max records)
 empty_sound cycle links records r l = record {
   ranged = r;
   many = refl;

@@ -4,7 +4,7 @@ mod Lists
 mod States
 mod Searches
 mod Outcomes
-mod Ordered
-mod Props
+pub mod Ordered
+pub mod Props
 mod Blanks
 mod Walks

@@ -11,7 +11,7 @@ use Rattle.chains.specs.declared.board.Board.{Board}
 use Rattle.chains.specs.declared.chains.Chains.{Chains}
 use Rattle.chains.specs.declared.walk.Walk.{Walk}
 
-trail_prop : (nx : List ℕ) (p : ℕ) (is : List ℕ) (a b : Trail nx p is) → a ≡ b
+pub trail_prop : (nx : List ℕ) (p : ℕ) (is : List ℕ) (a b : Trail nx p is) → a ≡ b
 trail_prop nx p [] a b = ℕ_set _ _ a b
 trail_prop nx p (j ∷ js) a b = λ i. (ℕ_set _ _ a.0 b.0 i, le_prop a.1 b.1 i, le_prop a.2 b.2 i, trail_prop nx (get_or nx j 0) js a.3 b.3 i)
 
@@ -22,7 +22,7 @@ sound_prop tops nx a b = λ i. record {
   whole = ℕ_set _ _ a.whole b.whole i;
 }
 
-kept_prop : {R : Type 0} {N : ℕ} (n : ℕ) (board : Board R N) (a b : Kept n board) → a ≡ b
+pub kept_prop : {R : Type 0} {N : ℕ} (n : ℕ) (board : Board R N) (a b : Kept n board) → a ≡ b
 kept_prop n board a b = λ i. record {
   all = ℕ_set _ _ a.all b.all i;
   sound = sound_prop _ _ a.sound b.sound i;

@@ -8,7 +8,7 @@ use Rattle.book.specs.Spans.{Span, span, In, Fits, NoneBeginsAt, Orderly, insert
 use Rattle.book.specs.declared.refusal.BookRefusal.TheVariants.{NoneBegins}
 use Rattle.book.specs.declared.refusal.Holding.{Holding}
 use Rattle.limits.proofs.Once.{none_hold, first_passed, within_or_not}
-use Rattle.limits.specs.Ranges.{Within}
+use Rattle.limits.specs.Ranges.{Within, link_max}
 use Rattle.limits.specs.Refusals.{First}
 use Rattle.std.proofs.lemmas.Bool.{cases_lt, cases_eq}
 use Rattle.grid_book.specs.declared.cell.Cell.{Cell}
@@ -21,11 +21,14 @@ use Rattle.grid_book.proofs.Places.{cells_long, row_whole, row_at, rows_set}
 
 module _ (H links room count : ℕ) (cells : List Cell) (sound : Sound H links room count cells) (link : ℕ) (there : Within 1 links link) where
   -- the bookings of the link are those of its cells
-  row_known : row (means H links room cells) link ≡ spans (cells_of H (link - 1) cells)
+  pub row_known : row (means H links room cells) link ≡ spans (cells_of H (link - 1) cells)
   row_known = row_at H links cells (link - 1) (omega (arith, there.least, there.most))
 
-  row_marked : Marked H (cells_of H (link - 1) cells)
+  pub row_marked : Marked H (cells_of H (link - 1) cells)
   row_marked = sound.marked (link - 1) (omega (arith, there.least, there.most))
+
+  pub place_low : link - 1 < link_max
+  place_low = omega (arith, there.most, sound.sized.linked.most)
 
   -- other cells for the link
   rerowed : (r : List Span) (after : List Cell) (n : ℕ) → length after ≡ length cells → ((other : ℕ) → (other ≡ link - 1 → ⊥) → cells_of H other after ≡ cells_of H other cells) → spans (cells_of H (link - 1) after) ≡ r → Marked H (cells_of H (link - 1) after)
@@ -44,19 +47,21 @@ module _ (H links room count : ℕ) (cells : List Cell) (sound : Sound H links r
 
 -- a booking that is not refused
 module _ (H links room count : ℕ) (cells : List Cell) (sound : Sound H links room count cells) (link start : ℕ) (h : Holding) (none : First (book_rules (means H links room cells) link (span start h.ticks h.flow)) None) where
+  pub book_room : count < room
+  book_room = ⊎_elim (λ l. omega (arith, sound.counted)) (λ full. absurd ((none_hold (book_rules (means H links room cells) link (span start h.ticks h.flow)) none).1.1.1.0 full)) (cases_lt (total (rows_of H links cells)) room)
+
   -- its cells add it
   pub added : (after : List Cell) → RowPainted H (link - 1) start h.ticks (first_Cell h) Further cells after
       → (means H links room after ≡ with_row (means H links room cells) link (insert (span start h.ticks h.flow) (row (means H links room cells) link))) × Sound H links room (count + 1) after
   added after p =
       let m = means H links room cells in
       let s = span start h.ticks h.flow in
-      let (no-link, (no-fit, (clash, (not_full, end)))) = none_hold (book_rules m link s) none in
+      let (no-link, (no-fit, (clash, rest))) = none_hold (book_rules m link s) none in
       let there = within_or_not 1 links link no-link in
       let fits = fits_or_not H s no-fit in
-      let few : count < room = ⊎_elim (λ l. omega (arith, sound.counted)) (λ full. absurd (not_full full)) (cases_lt (total (rows_of H links cells)) room) in
       let known = row_known H links room count cells sound link there in
       let clear = subst (λ r. Clashes H r s → ⊥) known clash in
-      let long = cells_long H (link - 1) cells (row_whole H links link cells there (sound.sized.enough (omega arith))) in
+      let long = cells_long H (link - 1) cells (row_whole H links link cells there (sound.sized.enough (omega (arith, book_room)))) in
       let before = row_marked H links room count cells sound link there in
       let here = booked_spans H start h (cells_of H (link - 1) cells) (cells_of H (link - 1) after) fits.start fits.ticks.least long before p.here clear in
       let marked = booked_marked H start h (cells_of H (link - 1) cells) (cells_of H (link - 1) after) fits.start fits.ticks.least long before p.here clear in

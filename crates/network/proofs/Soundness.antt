@@ -40,6 +40,15 @@ sound_prop net a b = λ i. record {
 pub sound_of : (d : Draft) → Sound (drafted d)
 sound_of d = ∥∥₁_elim d.sound (sound_prop _) (λ s. s)
 
+-- a network with no link and numbers in range
+pub sound_bare : (net : Net) → length net.links ≡ 0 → InRange net.numbers → Sound net
+sound_bare net none h = record {
+  ranges = h;
+  ends = λ k l. omega arith;
+  once = λ j k l m e. omega arith;
+  few = record { least = omega arith; most = omega arith };
+}
+
 -- a link more, between different nodes that none joins yet
 pub sound_more : (net : Net) (a b : ℕ) → Sound net → Ends net.numbers a b → (Linked net a b → ⊥) → length net.links < link_max → Sound (record { numbers = net.numbers; links = net.links ++ (link a b ∷ []) })
 sound_more net a b s e fresh room = record {
