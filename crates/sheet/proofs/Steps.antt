@@ -1,10 +1,11 @@
 -- A piece is cut where a byte first stands, and so one line or one word more is known. Assumes nothing.
-use Rattle.std.proofs.Common.{◌≡◌, ℕ, ◌+◌, ◌-◌, ◌<◌, ◌≤◌, List, [], ◌∷◌, ◌++◌, map, length, get_or, take, drop, Some, None, Option, IfSome, sym, refl, ap, ◌∙◌, arith, take-append-drop, take_all, get_or-take, length-drop, length-take-le}
+use Rattle.std.proofs.Common.{◌≡◌, ℕ, zero, suc, eqb, Bool, not, cond, true, false, subst, ⊎_elim, ◌+◌, ◌-◌, ◌<◌, ◌≤◌, List, [], ◌∷◌, ◌++◌, map, length, get_or, take, drop, Some, None, Option, IfSome, sym, refl, ap, ◌∙◌, arith, take-append-drop, take_all, get_or-take, length-drop, length-take-le}
 use Rattle.std.proofs.lemmas.List.{drop_more}
-use Rattle.std.specs.List.{AllWithin, HoldsAt}
+use Rattle.std.specs.List.{AllWithin, HoldsAt, prefix_len}
+use Rattle.std.proofs.lemmas.Bool.Decides.{eqb_tells}
 use Rattle.std.proofs.lemmas.Bool.{true≢false}
 use Rattle.std.specs.Option.{is_some}
-use Rattle.std.specs.Prelude.{false, ◌≢◌}
+use Rattle.std.specs.Prelude.{◌≢◌}
 use Rattle.sheet.specs.Pieces.{pieces, Lacks}
 use Rattle.sheet.specs.Lines.{SheetWord, unless_empty, ended, numbered, placed}
 use Rattle.sheet.specs.Readers.{seen, parts, lines_on}
@@ -22,6 +23,32 @@ module _ (b : ℕ) (bs : List ℕ) where
   cut_at at l here before =
       let lacks : Lacks b (take at bs) = λ k m same. let near : k < at = omega (arith, length-take-le at bs (omega arith)) in before k 0 (omega arith) near (sym (get_or-take at bs k 0 near) ∙ same) in
       ap (pieces b) (sym (take-append-drop at bs) ∙ ap (λ t. take at bs ++ t) (drop_more bs at 0 l ∙ ap (λ x. x ∷ drop (at + 1) bs) (here 0))) ∙ first_piece b (take at bs) (drop (at + 1) bs) lacks
+
+-- the byte x is not b
+abbrev pub other : ℕ → ℕ → Bool
+other b x = not (eqb x b)
+
+module _ (b x : ℕ) (xs : List ℕ) where
+  starts : eqb x b ≡ true → prefix_len (other b) (x ∷ xs) ≡ 0
+  starts e = ap (λ t. cond (not t) (1 + prefix_len (other b) xs) 0) e
+
+  goes_on : eqb x b ≡ false → prefix_len (other b) (x ∷ xs) ≡ suc (prefix_len (other b) xs)
+  goes_on e = ap (λ t. cond (not t) (1 + prefix_len (other b) xs) 0) e ∙ omega arith
+
+-- b is none of the bytes before the first b
+pub before_first : (b : ℕ) (bs : List ℕ) (k d : ℕ) → k < prefix_len (other b) bs → get_or bs k d ≡ b → ⊥
+before_first b [] k d near same = omega arith
+before_first b (x ∷ xs) zero d near same = ⊎_elim (λ t. omega (arith, starts b x xs t.0)) (λ t. t.1 same) (eqb_tells x b)
+before_first b (x ∷ xs) (suc k) d near same = ⊎_elim (λ t. omega (arith, starts b x xs t.0)) (λ t. before_first b xs k d (omega (arith, goes_on b x xs t.0)) same) (eqb_tells x b)
+
+-- b stands where the bytes before the first b end
+pub at_first : (b : ℕ) (bs : List ℕ) (d : ℕ) → prefix_len (other b) bs < length bs → get_or bs (prefix_len (other b) bs) d ≡ b
+at_first b [] d h = omega arith
+at_first b (x ∷ xs) d h =
+    ⊎_elim
+    (λ t. subst (λ n. get_or (x ∷ xs) n d ≡ b) (sym (starts b x xs t.0)) t.1)
+    (λ t. subst (λ n. get_or (x ∷ xs) n d ≡ b) (sym (goes_on b x xs t.0)) (at_first b xs d (omega (arith, goes_on b x xs t.0))))
+    (eqb_tells x b)
 
 module _ (b p : ℕ) (bs : List ℕ) where
   -- the one part of bytes that b is nowhere in

@@ -21,19 +21,18 @@ impl<'a> Piece<'a> {
         ensures { parts byte (Some self.entry) ≡ seen result.0 ∷ parts byte result.1 }
     {
         let Piece { place, bytes } = self;
-        match bytes.iter().position(|b| *b == byte) {
-            Some(at) => {
-                let before = Piece {
-                    place,
-                    bytes: &bytes[..at],
-                };
-                let after = Piece {
-                    place: place + at + 1,
-                    bytes: &bytes[at + 1..],
-                };
-                (before, Some(after))
-            }
-            None => (self, None),
+        let at = bytes.iter().take_while(|b| **b != byte).count();
+        if at == bytes.len() {
+            return (self, None);
         }
+        let before = Piece {
+            place,
+            bytes: &bytes[..at],
+        };
+        let after = Piece {
+            place: place + at + 1,
+            bytes: &bytes[at + 1..],
+        };
+        (before, Some(after))
     }
 }
